@@ -1,0 +1,5 @@
+pub mod Places
+pub mod Refusals
+pub mod Held
+pub mod Terms
+pub mod Rows
