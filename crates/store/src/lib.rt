@@ -1,0 +1,5 @@
+//! What a store of objects means, and the calls that every kind of store has.
+pub mod closures;
+pub mod faults;
+pub mod methods;
+pub mod store;
