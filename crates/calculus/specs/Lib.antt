@@ -3,3 +3,5 @@ pub mod Refusals
 pub mod Held
 pub mod Terms
 pub mod Rows
+pub mod Text
+pub mod Trees
