@@ -1,0 +1,9 @@
+pub mod Answers
+pub mod State
+pub mod Settle
+pub mod Reduce
+pub mod Run
+pub mod Outcome
+pub mod Start
+pub mod Laws
+pub mod Examples

@@ -1,0 +1,4 @@
+//! The table machine: what it reads, holds and answers, and its definition.
+pub mod answers;
+pub mod state;
+pub mod steps;
