@@ -1,5 +1,5 @@
 -- The silent transitions that are due before a reduction, and the bounds that keep every count below its limit.
-use mathlib.Core.Bool.{Bool, _&&_}
+use mathlib.Core.Bool.{Bool, true, false, _&&_}
 use mathlib.Core.List.{List, [], _∷_}
 use Prim.Native.Nat.{ℕ, zero, suc, _+_, _*_, _^_, _<_}
 use lib.Dec.{ltb}
@@ -51,6 +51,14 @@ vacant (Some v) = 0
 -- how many silent transitions can follow one another, at most
 abbrev pub slack : State → ℕ
 slack s = length (s .frames) + vacant (s .registers .accumulator)
+
+-- whether a silent transition is due
+abbrev pub silent : Due → Bool
+silent (Fill v) = true
+silent Return = true
+silent (Done v) = false
+silent Astray = false
+silent (Reduce r) = false
 
 abbrev pub on-due : Due → State → (State → State) → State
 on-due (Fill v) s go = go (filled s v)
