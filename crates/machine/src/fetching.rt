@@ -1,9 +1,10 @@
 //! What stands at a place of the code, and in an environment.
 ghost use mathlib.Core.Path.{_≡_};
 ghost use mathlib.Core.Bool.{true};
+ghost use mathlib.Core.List.{[], _∷_, _++_};
 ghost use Prim.Native.Nat.{ℕ, _+_, _-_, _^_, _<_, _≤_};
 ghost use lib.ListN.{length};
-ghost use Rattle.calculus.specs.Held.{laid, held};
+ghost use Rattle.calculus.specs.Held.{laid, held, room};
 ghost use Rattle.calculus.specs.Text.{text-of};
 ghost use Rattle.machine_model.specs.State.{fetched, fetched-from, is-found, cell-of, variable, begins, goes-on};
 use calculus::code::Code;
@@ -54,6 +55,18 @@ fn cell_at(cells: &Stack<'_, Cell>, env: u32) -> Option<Cell>
     } else {
         cells.get(env as usize - 1)
     }
+}
+
+/// Adds a cell where there is room, and answers the environment that begins with it.
+pub(crate) fn add_cell(cells: &mut Stack<'_, Cell>, cell: Cell) -> u32
+    requires { ⌜ length (laid (now cells)) < room (now cells) ⌝ }
+    ensures cells { λ _. ⌜ laid (now (cells .exit)) ≡ laid (now (cells .entry)) ++ (cell ∷ []) ⌝ }
+    ensures room { λ _. ⌜ room (now (cells .exit)) ≡ room (now (cells .entry)) ⌝ }
+    ensures env { λ r. ⌜ r ≡ length (laid (now (cells .entry))) + 1 ⌝ }
+{
+    let env = cells.len() as u32 + 1;
+    let _ = cells.push(cell);
+    env
 }
 
 /// The value of a variable, counted from 1, in an environment.

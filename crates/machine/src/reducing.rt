@@ -11,6 +11,7 @@ ghost use Rattle.machine_model.specs.declared.steps.Action.the-variants.{Make, 
 ghost use Rattle.machine_model.specs.Settle.{Sound};
 ghost use Rattle.machine_model.specs.Reduce.{Move, room-to-enter, entering, entered, valued, located, replaced, acted, entries-at, object-more, clone-more, update-more, Ready, OneMore, Stands};
 ghost use Rattle.machine.specs.Machine.{state-of};
+use crate::fetching::add_cell;
 use crate::machine::Machine;
 use calculus::code::Code;
 use calculus::values::Value;
@@ -82,18 +83,13 @@ impl<'a> Machine<'a> {
             report: _,
             progress,
         } = self.registers;
-        let new = self.cells.len() as u32 + 1;
-        let _ = self.cells.push(Cell { value, parent: env });
+        let env = add_cell(&mut self.cells, Cell { value, parent: env });
         let _ = self.frames.push(Frame {
             list: at.list,
             next: at.next + 1,
             env: at.env,
         });
-        let at = Frame {
-            list,
-            next: 0,
-            env: new,
-        };
+        let at = Frame { list, next: 0, env };
         self.registers = Registers {
             at,
             accumulator: None,
