@@ -1,0 +1,4 @@
+pub mod Rowed
+pub mod Inv
+pub mod Costs
+pub mod Walking

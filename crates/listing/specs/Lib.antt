@@ -1,0 +1,4 @@
+pub mod Steps
+pub mod Listing
+pub mod Areas
+pub mod Cost
