@@ -3,3 +3,4 @@ pub mod Refusals
 pub mod Held
 pub mod Terms
 pub mod Rows
+pub mod Sizes
