@@ -109,7 +109,7 @@ module _ (T : Text) where
       Ready c (lists c m a ++ (spine (suc (c + bodies a)) (m + entries a) b ∷ lists (suc (c + bodies a)) (m + entries a) b)) →
       Part (T .methods) m (table c a ++ table (suc (c + bodies a)) b) →
       ((p q : ℕ) → Ready (suc (c + bodies a)) (lists (suc (c + bodies a)) (m + entries a) b) → Part (T .methods) (m + entries a) (table (suc (c + bodies a)) b) →
-          Part (T .operations) p (spine (suc (c + bodies a)) (m + entries a) b) → RestAt T (c + bodies a) (p + length (spine (suc (c + bodies a)) (m + entries a) b)) q done → CodeAt T (c + bodies a) p q (trans b done)) →
+      Part (T .operations) p (spine (suc (c + bodies a)) (m + entries a) b) → RestAt T (c + bodies a) (p + length (spine (suc (c + bodies a)) (m + entries a) b)) q done → CodeAt T (c + bodies a) p q (trans b done)) →
       Named T l (c + bodies a) (λ e. CodeAt T (c + bodies a) (e .first) (e .first + e .len) (trans b done))
   lay-body c m a b l lt hl hm f =
       let n : ℕ = c + bodies a in

@@ -18,10 +18,12 @@ ghost use Rattle.listing.specs.Nesting.{nesting};
 ghost use Rattle.listing.specs.Back.{answer, Gave};
 ghost use Rattle.listing.specs.Laws.{ListsBack, TwoHundred, RoundTrip};
 ghost use Rattle.listing.specs.Examples.{Worked};
+
 pub mod pending;
 mod reading;
 mod turning;
 mod writing;
+
 use crate::pending::Pending;
 use crate::turning::list_program;
 use calculus::area::used_of;
