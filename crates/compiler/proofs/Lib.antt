@@ -1,3 +1,5 @@
 pub mod Steps
 pub mod Views
 pub mod Ways
+pub mod Paste
+pub mod Laying
