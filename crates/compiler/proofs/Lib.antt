@@ -3,3 +3,4 @@ pub mod Views
 pub mod Ways
 pub mod Paste
 pub mod Laying
+pub mod Placing
