@@ -1,0 +1,5 @@
+pub mod Faults
+pub mod Tokens
+pub mod States
+pub mod Trials
+pub mod Layers
