@@ -35,6 +35,10 @@ pub record Meaning : Type 0 where
   pub method-limit : ℕ
   pub trial : Trial
 
+-- a plain store with no objects yet
+abbrev pub begun : ℕ → ℕ → Meaning
+begun object-limit method-limit = record { objects = []; object-limit = object-limit; method-limit = method-limit; trial = no-trial }
+
 -- the sizes of all objects
 abbrev pub total : List Object → ℕ
 total [] = 0
