@@ -3,3 +3,5 @@ pub mod Tokens
 pub mod States
 pub mod Trials
 pub mod Layers
+pub mod Runs
+pub mod Laws

@@ -1,6 +1,7 @@
 //! Trials over any store: try updates, then keep them or put them back.
 mod book;
 pub mod faults;
+pub mod laws;
 pub mod layer;
 mod notes;
 mod pages;

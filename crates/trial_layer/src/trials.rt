@@ -3,6 +3,7 @@ ghost use mathlib.Core.Path.{_≡_};
 ghost use lib.ListN.{length};
 ghost use Rattle.store.specs.Meaning.{closed};
 ghost use Rattle.trial_layer.specs.Layers.{layer-meaning};
+ghost use Rattle.trial_layer.specs.Laws.{PutBack};
 ghost use Rattle.trial_layer.specs.Trials.{with-trial, open-result, opening, keep-result, kept, back-result, put-back, written, undo};
 use crate::book::Book;
 use crate::faults::TrialFault;
@@ -58,6 +59,7 @@ impl<S: Store> TrialLayer<S> {
     pub fn put_back(&mut self, token: Token) -> Result<(), (Token, TrialFault)>
         ensures answer { λ r. ⌜ r ≡ back-result (layer-meaning (S·Store .meaning) (now (self .entry)) .trial) token ⌝ }
         ensures state { λ _. ⌜ layer-meaning (S·Store .meaning) (now (self .exit)) ≡ put-back (layer-meaning (S·Store .meaning) (now (self .entry))) (token .number) ⌝ }
+        ensures back { λ r. ⌜ PutBack (layer-meaning (S·Store .meaning) (now (self .entry))) token r (layer-meaning (S·Store .meaning) (now (self .exit))) ⌝ }
     {
         if let Some(fault) = self.book.back_fault(token.number()) {
             return Err((token, fault));

@@ -1,10 +1,9 @@
-use mathlib.Core.Path.{_≡_, refl, sym, ap, _∙_}
-use Prim.Native.Nat.{suc, _-_}
+use mathlib.Core.Path.{refl, ap, _∙_}
+use Prim.Native.Nat.{_-_}
 use native.Mathlib.Omega.{arith}
-use lib.ListN.{length, take}
 use Rattle.std.proofs.shelf.Lists.{take-all}
 use Rattle.trial_layer.specs.Trials.{undo, written}
-use Rattle.trial_layer.proofs.Undoing.{undo-newest}
+use Rattle.trial_layer.proofs.Undoing.{undo-one}
 use Rattle.trial_layer.proofs.layer.TrialLayer.undo_updates.Needs as need
 
 pub loop-place-holds : need.loop-place-holds
@@ -15,14 +14,11 @@ loop-place-holds g c =
 
 pub loop-place-again : need.loop-place-again
 loop-place-again g c =
-    let os = g .S·Store .meaning (c .loop-place .self .below) .objects in
-    let notes = written (c .loop-place .self .book) in
-    let k = c .loop-place .place - 1 in
-    let told = c .update .ensures .state in
-    let up : suc k ≡ c .loop-place .place = omega arith in (
-      ap (λ m. undo (take k notes) (m .objects)) told ∙ sym (undo-newest k notes (c .note-at-old .result) os (c .note-at-old .ensures)) ∙ ap (λ i. undo (take i notes) os) up ∙ c .loop-place .inv .0,
-      ap (λ m. m .object-limit) told ∙ c .loop-place .inv .1,
-      ap (λ m. m .method-limit) told ∙ c .loop-place .inv .2,
-      c .loop-place .inv .3,
-      omega (arith, c .loop-place .inv .4),
+    let l = c .loop-place in
+    let told = c .update .ensures .state in (
+      undo-one (g .S·Store .meaning (l .self .below)) (g .S·Store .meaning (c .update .last .self)) (written (l .self .book)) (l .place - 1) (l .place) (c .note-at-old .result) (omega arith) (c .note-at-old .ensures) told ∙ l .inv .0,
+      ap (λ m. m .object-limit) told ∙ l .inv .1,
+      ap (λ m. m .method-limit) told ∙ l .inv .2,
+      l .inv .3,
+      omega (arith, l .inv .4),
     )
