@@ -11,9 +11,9 @@ use Rattle.calculus.specs.Places.{nth, if-some}
 use Rattle.store.specs.declared.closures.Closure.{Closure}
 use Rattle.store.specs.declared.closures.Method.{Method}
 use Rattle.store.specs.declared.closures.OldMethod.{OldMethod}
-use Rattle.store.specs.Meaning.{Meaning, Object, put-closure, with-closure, updated}
+use Rattle.store.specs.Meaning.{Meaning, Object, Trial, with-objects, put-closure, with-closure, updated}
 use Rattle.trial_layer.specs.Laws.{Placed, AllPlaced}
-use Rattle.trial_layer.specs.Trials.{restore, undo}
+use Rattle.trial_layer.specs.Trials.{with-trial, restore, undo}
 use Rattle.trial_layer.proofs.Entries.{never, nth-below, nth-front, nth-set, set-nth}
 
 undo-newest : (k : ℕ) (notes : List OldMethod) (old : OldMethod) (os : List Object) → Some old ≡ nth notes k → undo (take (suc k) notes) os ≡ undo (take k notes) (restore old os)
@@ -21,9 +21,10 @@ undo-newest k [] old os h = never h
 undo-newest zero (n ∷ notes) old os h = let e : n ≡ old = cc in ap (λ x. restore x os) e
 undo-newest (suc k) (n ∷ notes) old os h = ap (restore n) (undo-newest k notes old os h)
 
--- one turn of put back
-pub undo-one : (m after : Meaning) (notes : List OldMethod) (k i : ℕ) (old : OldMethod) → suc k ≡ i → Some old ≡ nth notes k → after ≡ updated m (old .location) (old .place) (old .closure) → undo (take k notes) (after .objects) ≡ undo (take i notes) (m .objects)
-undo-one m after notes k i old up h told = ap (λ n. undo (take k notes) (n .objects)) told ∙ sym (undo-newest k notes old (m .objects) h) ∙ ap (λ j. undo (take j notes) (m .objects)) up
+-- one turn of put back, under any trial
+pub undo-one : (m later : Meaning) (t : Trial) (notes : List OldMethod) (k i : ℕ) (old : OldMethod) → suc k ≡ i → Some old ≡ nth notes k → later ≡ updated m (old .location) (old .place) (old .closure) → with-objects (with-trial later t) (undo (take k notes) (later .objects)) ≡ with-objects (with-trial m t) (undo (take i notes) (m .objects))
+undo-one m later t notes k i old up h told =
+    ap (λ n. with-objects (with-trial n t) (undo (take k notes) (n .objects))) told ∙ ap (with-objects (with-trial m t)) (sym (undo-newest k notes old (m .objects) h) ∙ ap (λ j. undo (take j notes) (m .objects)) up)
 
 pub undo-push : (notes : List OldMethod) (old : OldMethod) (os : List Object) → undo (notes ++ old ∷ []) os ≡ undo notes (restore old os)
 undo-push [] old os = refl

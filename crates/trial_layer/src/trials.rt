@@ -1,7 +1,7 @@
 //! A layer's trials.
 ghost use mathlib.Core.Path.{_≡_};
 ghost use lib.ListN.{length};
-ghost use Rattle.store.specs.Meaning.{closed};
+ghost use Rattle.store.specs.Meaning.{closed, with-objects};
 ghost use Rattle.trial_layer.specs.Layers.{layer-meaning};
 ghost use Rattle.trial_layer.specs.Laws.{PutBack};
 ghost use Rattle.trial_layer.specs.Trials.{with-trial, open-result, opening, keep-result, kept, back-result, put-back, written, undo};
@@ -44,9 +44,7 @@ impl<S: Store> TrialLayer<S> {
 
     /// Undoes every update of the open trial, the newest first.
     fn undo_updates(&mut self)
-        ensures objects { λ _. ⌜ S·Store .meaning (now (self .exit) .below) .objects ≡ undo (written (now (self .entry) .book)) (S·Store .meaning (now (self .entry) .below) .objects) ⌝ }
-        ensures objectlimit { λ _. ⌜ S·Store .meaning (now (self .exit) .below) .object-limit ≡ S·Store .meaning (now (self .entry) .below) .object-limit ⌝ }
-        ensures methodlimit { λ _. ⌜ S·Store .meaning (now (self .exit) .below) .method-limit ≡ S·Store .meaning (now (self .entry) .below) .method-limit ⌝ }
+        ensures state { λ _. ⌜ layer-meaning (S·Store .meaning) (now (self .exit)) ≡ with-objects (layer-meaning (S·Store .meaning) (now (self .entry))) (undo (written (now (self .entry) .book)) (layer-meaning (S·Store .meaning) (now (self .entry)) .objects)) ⌝ }
         ensures book { λ _. ⌜ now (self .exit) .book ≡ now (self .entry) .book ⌝ }
     {
         for place in (0..self.book.len()).rev() {
