@@ -64,7 +64,7 @@ impl<S: Store> TrialLayer<S> {
         }
         let _ = token.spend();
         self.undo_updates();
-        self.book.close();
+        self.book.close(); // what it notes is undone
         Ok(())
     }
 }
