@@ -55,19 +55,21 @@ impl<'a, S: Store> Session<'a, S> {
     }
 
     /// Starts a program with its givens and an allowance of reductions.
-    pub fn start(
-        &mut self,
-        program: u32,
-        givens: &[Value],
-        allowance: u32,
-    ) -> Result<(), Refusal>
+    pub fn start(&mut self, program: u32, givens: &[Value], allowance: u32) -> Result<(), Refusal>
         ensures answer { λ r. ⌜ r ≡ start-answer (now (self .entry) .tables) (now (self .entry) .counts) (state-of (now (self .entry) .machine)) (meaning (now (self .entry) .store)) program (now (givens .entry)) ⌝ }
         ensures state { λ _. ⌜ state-of (now (self .exit) .machine) ≡ start-state (now (self .entry) .tables) (now (self .entry) .counts) (state-of (now (self .entry) .machine)) (meaning (now (self .entry) .store)) program (now (givens .entry)) allowance ⌝ }
         ensures tables { λ _. ⌜ now (self .exit) .tables ≡ now (self .entry) .tables ⌝ }
         ensures counts { λ _. ⌜ now (self .exit) .counts ≡ now (self .entry) .counts ⌝ }
         ensures store { λ _. ⌜ meaning (now (self .exit) .store) ≡ meaning (now (self .entry) .store) ⌝ }
     {
-        self.machine.start(&self.tables, self.counts, &self.store, program, givens, allowance)
+        self.machine.start(
+            &self.tables,
+            self.counts,
+            &self.store,
+            program,
+            givens,
+            allowance,
+        )
     }
 
     /// Runs the program for at most `n` reductions.
@@ -78,6 +80,7 @@ impl<'a, S: Store> Session<'a, S> {
         ensures tables { λ _. ⌜ now (self .exit) .tables ≡ now (self .entry) .tables ⌝ }
         ensures counts { λ _. ⌜ now (self .exit) .counts ≡ now (self .entry) .counts ⌝ }
     {
-        self.machine.run(&self.tables, self.counts, &mut self.store, n)
+        self.machine
+            .run(&self.tables, self.counts, &mut self.store, n)
     }
 }
