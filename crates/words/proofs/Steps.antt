@@ -1,0 +1,64 @@
+-- The first word of a line.
+use mathlib.Core.Path.{_≡_, refl, sym, ap, _∙_}
+use mathlib.Core.Bool.{Bool, true, false, cond}
+use mathlib.Core.Logic.{⊎-elim}
+use mathlib.Core.List.{List, [], _∷_, _++_, append-nil, append-assoc}
+use Prim.Native.Nat.{ℕ, zero, suc, _-_, _≤_, _<_}
+use native.Mathlib.Nat.{add-zero, sub-zero}
+use native.Mathlib.Omega.{arith}
+use lib.ListN.{length, getD, take, drop}
+use Rattle.std.proofs.shelf.Tests.{cond-true, cond-false, cases-bool}
+use Rattle.std.proofs.shelf.Lists.{getD-drop, length-drop, take-rest}
+use Rattle.words.specs.Words.{blank, Run, ended, words-after, words}
+
+-- `&s[i..]` as the checker has it
+abbrev from : ℕ → List ℕ → List ℕ
+from i s = take (length s - i) (drop i s)
+
+other : (b : Bool) → (b ≡ false → ⊥) → b ≡ true
+other true h = refl
+other false h = absurd (h refl)
+
+-- blanks in front of a line are none of its words
+skip : (n : ℕ) (bs : List ℕ) → Run true n bs → words bs ≡ words (drop n bs)
+skip zero bs r = refl
+skip (suc n) [] r = absurd (omega arith)
+skip (suc n) (b ∷ bs) r =
+    cond-true _ _ _ (r .all 0 (omega arith))
+    ∙ skip n bs (record { within = omega arith; all = λ k l. r .all (suc k) (omega arith); stops = λ l. r .stops (omega arith) })
+
+-- a word ends at a blank, or with the line
+gather : (n : ℕ) (w bs : List ℕ) → Run false n bs → words-after w bs ≡ ended (w ++ take n bs) (words (drop n bs))
+gather zero w [] r = rw append-nil
+gather zero w (b ∷ bs) r = let e = other (blank b) (r .stops (omega arith)) in rw (append-nil, e)
+gather (suc n) w [] r = absurd (omega arith)
+gather (suc n) w (b ∷ bs) r =
+    cond-false _ _ _ (r .all 0 (omega arith))
+    ∙ gather n (w ++ b ∷ []) bs (record { within = omega arith; all = λ k l. r .all (suc k) (omega arith); stops = λ l. r .stops (omega arith) })
+    ∙ ap (λ v. ended v (words (drop n bs))) (append-assoc w (b ∷ []) (take n bs))
+
+some : (n : ℕ) (bs : List ℕ) (ws : List (List ℕ)) → 0 < n → n ≤ length bs → ended (take n bs) ws ≡ take n bs ∷ ws
+some zero bs ws h l = absurd (omega arith)
+some (suc n) [] ws h l = absurd (omega arith)
+some (suc n) (b ∷ bs) ws h l = refl
+
+none : (bs : List ℕ) → Run false 0 bs → (0 < length bs → blank (getD bs 0 0) ≡ true → ⊥) → words bs ≡ []
+none [] r h = refl
+none (b ∷ bs) r h = absurd (⊎-elim (h (omega arith)) (r .stops (omega arith)) (cases-bool (blank b)))
+
+-- b blanks, then no word
+pub no-word : (bs : List ℕ) (b n : ℕ) → Run true b bs → Run false n (from b bs) → n ≡ 0 → words bs ≡ []
+no-word bs b n blanks r e =
+    let r₀ : Run false 0 (drop b bs) = rw (← e, ← take-rest bs b) r in
+    skip b bs blanks
+    ∙ none (drop b bs) r₀ (λ l e. blanks .stops (omega (arith, length-drop b bs)) (ap blank (sym (getD-drop b bs 0 0 ∙ ap (λ i. getD bs i 0) (add-zero b))) ∙ e))
+
+-- b blanks, then a word of n bytes
+pub one-word : (bs : List ℕ) (b n : ℕ) → Run true b bs → Run false n (from b bs) → 0 < n → words bs ≡ take (n - 0) (from b bs) ∷ words (from n (from b bs))
+one-word bs b n blanks r h =
+    skip b bs blanks
+    ∙ ap words (sym (take-rest bs b))
+    ∙ gather n [] (from b bs) r
+    ∙ some n (from b bs) _ h (r .within)
+    ∙ ap (λ ws. take n (from b bs) ∷ words ws) (sym (take-rest (from b bs) n))
+    ∙ ap (λ k. take k (from b bs) ∷ words (from n (from b bs))) (sym (sub-zero n))

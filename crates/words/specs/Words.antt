@@ -1,0 +1,35 @@
+-- A line as words.
+use mathlib.Core.Path.{_≡_}
+use mathlib.Core.Bool.{Bool, cond, _||_}
+use mathlib.Core.List.{List, [], _∷_, _++_}
+use Prim.Native.Nat.{ℕ, _≤_, _<_}
+use lib.Dec.{eqb}
+use lib.ListN.{length, getD}
+use Rattle.words.specs.declared.words.Words.{Words}
+
+-- a byte that parts words: a space or a tab
+abbrev pub blank : ℕ → Bool
+blank b = eqb b 32 || eqb b 9
+
+-- the first n bytes are blanks, or are none, and the next byte is not so
+pub record Run (b : Bool) (n : ℕ) (bs : List ℕ) : Type 0 where
+  pub within : n ≤ length bs
+  pub all : (k : ℕ) → k < n → blank (getD bs k 0) ≡ b
+  pub stops : n < length bs → blank (getD bs n 0) ≡ b → ⊥
+
+-- a word that was begun, if any of its bytes were read, before the words that follow
+abbrev pub ended : List ℕ → List (List ℕ) → List (List ℕ)
+ended [] ws = ws
+ended (b ∷ bs) ws = (b ∷ bs) ∷ ws
+
+-- the words of a line, after the bytes of a word that was begun
+abbrev pub words-after : List ℕ → List ℕ → List (List ℕ)
+words-after w [] = ended w []
+words-after w (b ∷ bs) = cond (blank b) (ended w (words-after [] bs)) (words-after (w ++ b ∷ []) bs)
+
+abbrev pub words : List ℕ → List (List ℕ)
+words line = words-after [] line
+
+-- the words that are still to be read
+abbrev pub left : Words → List (List ℕ)
+left ws = words (ws .rest .now)

@@ -1,0 +1,2 @@
+//! A line as words, and words as numbers.
+pub mod words;
