@@ -1,0 +1,2 @@
+//! Rows and values as words of a script: read, and written.
+pub mod read;
