@@ -9,6 +9,8 @@ use native.Mathlib.Omega.{arith}
 use lib.ListN.{length, getD, take, drop}
 use Rattle.std.proofs.shelf.Tests.{cond-true, cond-false, cases-bool}
 use Rattle.std.proofs.shelf.Lists.{getD-drop, length-drop, take-rest}
+use Rattle.std.specs.shelf.Lists.{All}
+use Rattle.words.specs.Laws.{Parted}
 use Rattle.words.specs.Words.{blank, Run, ended, words-after, words}
 
 -- `&s[i..]` as the checker has it
@@ -62,3 +64,23 @@ one-word bs b n blanks r h =
     ∙ some n (from b bs) _ h (r .within)
     ∙ ap (λ ws. take n (from b bs) ∷ words ws) (sym (take-rest (from b bs) n))
     ∙ ap (λ k. take k (from b bs) ∷ words (from n (from b bs))) (sym (sub-zero n))
+
+ended-before : (w : List ℕ) (us vs : List (List ℕ)) → ended w (us ++ vs) ≡ ended w us ++ vs
+ended-before [] us vs = refl
+ended-before (b ∷ w) us vs = refl
+
+either : (d : Bool) (w : List ℕ) (us vs us′ vs′ ws : List (List ℕ)) → us ≡ vs ++ ws → us′ ≡ vs′ ++ ws → cond d (ended w us) us′ ≡ cond d (ended w vs) vs′ ++ ws
+either true w us vs us′ vs′ ws h k = ap (ended w) h ∙ ended-before w vs ws
+either false w us vs us′ vs′ ws h k = k
+
+-- what stands behind a blank
+parted-after : (w front back : List ℕ) (b : ℕ) → blank b ≡ true → words-after w (front ++ b ∷ back) ≡ words-after w front ++ words back
+parted-after w [] back b e = cond-true _ _ _ e ∙ ended-before w [] (words back)
+parted-after w (c ∷ front) back b e = either (blank c) w _ _ _ _ _ (parted-after [] front back b e) (parted-after (w ++ c ∷ []) front back b e)
+
+solid : (v w : List ℕ) → All (λ c. blank c ≡ false) w → words-after v w ≡ ended (v ++ w) []
+solid v [] h = ap (λ l. ended l []) (sym (append-nil v))
+solid v (c ∷ w) h = cond-false _ _ _ (h .0) ∙ solid (v ++ c ∷ []) w (h .1) ∙ ap (λ l. ended l []) (append-assoc v (c ∷ []) w)
+
+pub parted : Parted
+parted = (refl, λ w b h. solid [] (b ∷ w) h, λ front back b e. parted-after [] front back b e)

@@ -4,6 +4,7 @@ ghost use Prim.Native.Nat.{_+_, _*_, _^_};
 ghost use lib.IntN.{pos, negℤ};
 ghost use Rattle.std.specs.Options.{mapped};
 ghost use Rattle.std.specs.declared.option.Option.the-variants.{Some};
+ghost use Rattle.words.specs.Laws.{ReadAgain};
 ghost use Rattle.words.specs.Numbers.{under, bits-in, integer-in};
 
 /// The number with one more digit behind it, below 2^64.
@@ -89,4 +90,11 @@ pub fn integer(word: &[u8]) -> Option<i64>
         [b'-', digits @ ..] => negative(natural(digits)?),
         _ => positive(natural(word)?),
     }
+}
+
+/// The law of numbers: what is written of one in decimal is read as that number.
+pub fn numbers_read_again() -> u8
+    ensures { λ _. ⌜ ReadAgain ⌝ }
+{
+    0
 }

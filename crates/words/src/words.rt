@@ -2,6 +2,7 @@
 ghost use mathlib.Core.Path.{_≡_};
 ghost use mathlib.Core.List.{[], _∷_};
 ghost use Rattle.std.specs.Options.{Cases as BySome};
+ghost use Rattle.words.specs.Laws.{Parted};
 ghost use Rattle.words.specs.Words.{blank, Run, words, left};
 
 /// Whether a byte parts words: a space or a tab.
@@ -52,4 +53,11 @@ impl<'a> Words<'a> {
         self.rest = &rest[len..];
         Some(&rest[0..len])
     }
+}
+
+/// The law of words: what blanks part, and nothing else.
+pub fn words_are_parted() -> u8
+    ensures { λ _. ⌜ Parted ⌝ }
+{
+    0
 }
