@@ -1,5 +1,6 @@
 //! Rows and values as text.
 ghost use Rattle.std.specs.declared.option.Option.the-variants.{Some};
+ghost use Rattle.signs.specs.Laws.{ReadAgain};
 ghost use Rattle.signs.specs.Writing.{row-text, value-text};
 use calculus::rows::CLONE;
 use calculus::rows::FIGURE;
@@ -53,4 +54,11 @@ pub impl fmt::Display for ValueText as ValueTextDisplay {
             Value::Location(location) => write!(f, "@{location}"),
         }
     }
+}
+
+/// The law of signs: a row or a value that is written is read again.
+pub fn signs_read_again() -> u8
+    ensures { λ _. ⌜ ReadAgain ⌝ }
+{
+    0
 }

@@ -15,6 +15,8 @@ use Rattle.std.proofs.shelf.Ways.{tells}
 use Rattle.std.specs.Options.{mapped}
 use Rattle.std.specs.declared.option.Option.{Option}
 use Rattle.std.specs.declared.option.Option.the-variants.{Some, None}
+use Rattle.std.specs.shelf.Lists.{All}
+use Rattle.std.proofs.shelf.Elements.{all-append}
 use Rattle.std.specs.Written.{decimal, signed}
 use Rattle.std.proofs.shelf.Decimals.{decimal-by-steps, decimal-some}
 use mir.Syntax.{w64}
@@ -108,3 +110,10 @@ read-again = (bits, signs)
     signs : (z : ℤ) → SFits w64 z → integer-in (signed z) ≡ Some z
     signs (pos n) f = let m : n < 2 ^ 63 = f .sfits in plain-digits (decimal n) n (natural-decimal n (omega arith)) ∙ ap (mapped pos) (cond-true _ _ _ (lt-ltb _ _ m))
     signs (negsuc n) f = let m : n < 2 ^ 63 = f .sfits in ap below-zero (natural-decimal (suc n) (omega arith)) ∙ ap (mapped (λ (k : ℕ). negℤ (pos k))) (cond-true _ _ _ (lt-ltb (suc n) (2 ^ 63 + 1) (omega arith)))
+
+-- what is written of a number is digits
+pub digits-decimal : (n : ℕ) → n < 2 ^ 64 → All (λ c. digit c ≡ true) (decimal n)
+digits-decimal =
+    decimal-by-steps (λ n ds. All (λ c. digit c ≡ true) ds)
+    (λ n h. (grind (arith, tells), tt))
+    (λ n ds h a. let r : n % 10 < 10 = mod-lt n (omega arith) in all-append (λ c. digit c ≡ true) ds _ a (grind (arith, tells), tt))
