@@ -6,12 +6,13 @@ use mathlib.Core.List.{List, [], _∷_, _++_, append-nil, append-assoc}
 use Prim.Native.Nat.{ℕ, zero, suc, _-_, _≤_, _<_}
 use native.Mathlib.Nat.{add-zero, sub-zero}
 use native.Mathlib.Omega.{arith}
+use lib.Dec.{eqb}
 use lib.ListN.{length, getD, take, drop}
-use Rattle.std.proofs.shelf.Tests.{cond-true, cond-false, cases-bool}
-use Rattle.std.proofs.shelf.Lists.{getD-drop, length-drop, take-rest}
+use Rattle.std.proofs.shelf.Tests.{cond-true, cond-false, cases-bool, cases-eq, eq-eqb, ne-eqb}
+use Rattle.std.proofs.shelf.Lists.{getD-drop, length-drop, take-rest, at-drop-all}
 use Rattle.std.specs.shelf.Lists.{All}
 use Rattle.words.specs.Laws.{Parted}
-use Rattle.words.specs.Words.{blank, Run, ended, words-after, words}
+use Rattle.words.specs.Words.{blank, Run, ended, words-after, words, is-nil}
 
 -- `&s[i..]` as the checker has it
 abbrev from : ℕ → List ℕ → List ℕ
@@ -48,12 +49,15 @@ none : (bs : List ℕ) → Run false 0 bs → (0 < length bs → blank (getD bs 
 none [] r h = refl
 none (b ∷ bs) r h = absurd (⊎-elim (h (omega arith)) (r .stops (omega arith)) (cases-bool (blank b)))
 
+at-front : (b : ℕ) (bs : List ℕ) → getD (drop b bs) 0 0 ≡ getD bs b 0
+at-front b bs = getD-drop b bs 0 0 ∙ ap (λ i. getD bs i 0) (add-zero b)
+
 -- b blanks, then no word
 pub no-word : (bs : List ℕ) (b n : ℕ) → Run true b bs → Run false n (from b bs) → n ≡ 0 → words bs ≡ []
 no-word bs b n blanks r e =
     let r₀ : Run false 0 (drop b bs) = rw (← e, ← take-rest bs b) r in
     skip b bs blanks
-    ∙ none (drop b bs) r₀ (λ l e. blanks .stops (omega (arith, length-drop b bs)) (ap blank (sym (getD-drop b bs 0 0 ∙ ap (λ i. getD bs i 0) (add-zero b))) ∙ e))
+    ∙ none (drop b bs) r₀ (λ l e. blanks .stops (omega (arith, length-drop b bs)) (ap blank (sym (at-front b bs)) ∙ e))
 
 -- b blanks, then a word of n bytes
 pub one-word : (bs : List ℕ) (b n : ℕ) → Run true b bs → Run false n (from b bs) → 0 < n → words bs ≡ take (n - 0) (from b bs) ∷ words (from n (from b bs))
@@ -64,6 +68,30 @@ one-word bs b n blanks r h =
     ∙ some n (from b bs) _ h (r .within)
     ∙ ap (λ ws. take n (from b bs) ∷ words ws) (sym (take-rest (from b bs) n))
     ∙ ap (λ k. take k (from b bs) ∷ words (from n (from b bs))) (sym (sub-zero n))
+
+-- a word that was begun will end
+begun : (x : ℕ) (w bs : List ℕ) → is-nil (words-after (x ∷ w) bs) ≡ false
+begun x w [] = refl
+begun x w (b ∷ bs) = by (blank b) (begun x (w ++ b ∷ []) bs)
+  where
+    by : (d : Bool) → is-nil (words-after (x ∷ (w ++ b ∷ [])) bs) ≡ false → is-nil (cond d ((x ∷ w) ∷ words bs) (words-after (x ∷ (w ++ b ∷ [])) bs)) ≡ false
+    by true h = refl
+    by false h = h
+
+first-word : (bs : List ℕ) → 0 < length bs → (blank (getD bs 0 0) ≡ true → ⊥) → is-nil (words bs) ≡ false
+first-word [] h n = absurd (omega arith)
+first-word (b ∷ bs) h n = by (blank b) n
+  where
+    by : (d : Bool) → (d ≡ true → ⊥) → is-nil (cond d (words bs) (words-after (b ∷ []) bs)) ≡ false
+    by true n = absurd (n refl)
+    by false n = begun b [] bs
+
+-- no word is left exactly if all is blank
+pub all-blank : (bs : List ℕ) (b : ℕ) → Run true b bs → eqb b (length bs) ≡ is-nil (words bs)
+all-blank bs b r = ⊎-elim
+  (λ e. eq-eqb _ _ e ∙ sym (ap is-nil (skip b bs r ∙ at-drop-all words bs b (omega arith))))
+  (λ n. ne-eqb _ _ n ∙ sym (ap is-nil (skip b bs r) ∙ first-word (drop b bs) (omega (arith, length-drop b bs, r .within)) (λ e. r .stops (omega (arith, r .within)) (ap blank (sym (at-front b bs)) ∙ e))))
+  (cases-eq b (length bs))
 
 ended-before : (w : List ℕ) (us vs : List (List ℕ)) → ended w (us ++ vs) ≡ ended w us ++ vs
 ended-before [] us vs = refl

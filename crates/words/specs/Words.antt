@@ -1,11 +1,15 @@
 -- A line as words.
 use mathlib.Core.Path.{_≡_}
-use mathlib.Core.Bool.{Bool, cond, _||_}
+use mathlib.Core.Bool.{Bool, true, false, cond, _||_}
 use mathlib.Core.List.{List, [], _∷_, _++_}
-use Prim.Native.Nat.{ℕ, _≤_, _<_}
+use Prim.Native.Nat.{ℕ, _-_, _≤_, _<_}
 use lib.Dec.{eqb}
-use lib.ListN.{length, getD}
+use lib.ListN.{length, getD, take}
 use Rattle.words.specs.declared.words.Words.{Words}
+
+-- a line without the byte 10 that ends it, and without a byte 13 before that
+abbrev pub line-text : List ℕ → List ℕ
+line-text bs = cond (eqb (getD bs (length bs - 1) 0) 10) (cond (eqb (getD bs (length bs - 2) 0) 13) (take (length bs - 2) bs) (take (length bs - 1) bs)) bs
 
 -- a byte that parts words: a space or a tab
 abbrev pub blank : ℕ → Bool
@@ -33,3 +37,7 @@ words line = words-after [] line
 -- the words that are still to be read
 abbrev pub left : Words → List (List ℕ)
 left ws = words (ws .rest .now)
+
+abbrev pub is-nil : List (List ℕ) → Bool
+is-nil [] = true
+is-nil (w ∷ ws) = false

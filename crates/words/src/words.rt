@@ -3,7 +3,18 @@ ghost use mathlib.Core.Path.{_≡_};
 ghost use mathlib.Core.List.{[], _∷_};
 ghost use Rattle.std.specs.Options.{Cases as BySome};
 ghost use Rattle.words.specs.Laws.{Parted};
-ghost use Rattle.words.specs.Words.{blank, Run, words, left};
+ghost use Rattle.words.specs.Words.{line-text, blank, Run, words, left, is-nil};
+
+/// A line without the byte 10 that ends it, and without a byte 13 before that.
+pub fn without_end(line: &[u8]) -> &[u8]
+    ensures { λ r. ⌜ now r ≡ line-text (now (line .entry)) ⌝ }
+{
+    match line {
+        [text @ .., b'\r', b'\n'] => text,
+        [text @ .., b'\n'] => text,
+        _ => line,
+    }
+}
 
 /// Whether a byte parts words: a space or a tab.
 fn is_blank(byte: u8) -> bool
@@ -36,6 +47,13 @@ impl<'a> Words<'a> {
         ensures { λ r. ⌜ left r ≡ words (now (line .entry)) ⌝ }
     {
         Words { rest: line }
+    }
+
+    /// Whether no word is left.
+    pub fn is_empty(&self) -> bool
+        ensures { λ r. ⌜ r ≡ is-nil (left (now (self .entry))) ⌝ }
+    {
+        run_of(self.rest, true) == self.rest.len()
     }
 
     /// Takes the next word, if there is one.
