@@ -1,4 +1,8 @@
 //! The calls of a script, and what a line lacks that is none.
+ghost use mathlib.Core.Path.{_≡_};
+ghost use Rattle.std.specs.declared.option.Option.the-variants.{Some};
+ghost use Rattle.script.specs.declared.calls.Unread.the-variants.{Expected as expected, NoMemory};
+ghost use Rattle.script.specs.Messages.{expected-text};
 use calculus::rows::Row;
 use calculus::values::Value;
 use std::alloc::AllocError;
@@ -43,7 +47,7 @@ pub enum Call {
 /// What was expected where a line is no setting and no call.
 #[derive(Clone, Copy, PartialEq, Eq, Debug)]
 pub enum Expected {
-    Call,
+    Keyword,
     StoreKind,
     SettingOnce,
     SettingFirst,
@@ -61,33 +65,43 @@ pub enum Expected {
     LineEnd,
 }
 
+impl Expected {
+    /// The words for it.
+    pub fn text(self) -> &'static str
+        ensures { λ r. ⌜ now r ≡ expected-text self ⌝ }
+    {
+        match self {
+            Expected::Keyword =>
+                "a setting (store, lengths) or a call (check, compile, list, code, start, run, open, keep, put-back, objects)",
+            Expected::StoreKind =>
+                "flat, sharing, trial flat, trial sharing or trial trial sharing",
+            Expected::SettingOnce => "each setting at most once",
+            Expected::SettingFirst => "settings before the first call only",
+            Expected::AreaName =>
+                "an area's name: contents, operations, methods, cells, frames, objects or slots",
+            Expected::AreaOnce => "each area's name at most once",
+            Expected::AreaLength => "the area's length, from 0 to 4294967295",
+            Expected::Givens => "the number of givens, from 0 to 4294967295",
+            Expected::Row =>
+                "a row: V, F or O with a signed number, S, U or M with a label from 0 to 65535, C, L, or KIND/LABEL/NUMBER",
+            Expected::Program => "a program's number, from 0 to 4294967295",
+            Expected::Allowance => "an allowance of reductions, from 0 to 4294967295",
+            Expected::Value => "a value: a signed number, or @ and a location",
+            Expected::Reductions => "a number of reductions, from 0 to 4294967295",
+            Expected::Trial => "a trial's number, from 0 to 4294967295",
+            Expected::TrialLayer =>
+                "a store that is a trial layer (set it by 'store trial flat', say)",
+            Expected::LineEnd => "nothing more on this line",
+        }
+    }
+}
+
 pub impl fmt::Display for Expected as ExpectedText {
+    ghost shown = { λ e. Some (expected-text e) };
+
     fn fmt<W: fmt::Write>(&self, f: &mut fmt::Formatter<W>) -> fmt::Result {
-        f.write_str(
-            match *self {
-                Expected::Call =>
-                    "a setting (store, lengths) or a call (check, compile, list, code, start, run, open, keep, put-back, objects)",
-                Expected::StoreKind =>
-                    "flat, sharing, trial flat, trial sharing or trial trial sharing",
-                Expected::SettingOnce => "each setting at most once",
-                Expected::SettingFirst => "settings before the first call only",
-                Expected::AreaName =>
-                    "an area's name: contents, operations, methods, cells, frames, objects or slots",
-                Expected::AreaOnce => "each area's name at most once",
-                Expected::AreaLength => "the area's length, from 0 to 4294967295",
-                Expected::Givens => "the number of givens, from 0 to 4294967295",
-                Expected::Row =>
-                    "a row: V, F or O with a signed number, S, U or M with a label from 0 to 65535, C, L, or KIND/LABEL/NUMBER",
-                Expected::Program => "a program's number, from 0 to 4294967295",
-                Expected::Allowance => "an allowance of reductions, from 0 to 4294967295",
-                Expected::Value => "a value: a signed number, or @ and a location",
-                Expected::Reductions => "a number of reductions, from 0 to 4294967295",
-                Expected::Trial => "a trial's number, from 0 to 4294967295",
-                Expected::TrialLayer =>
-                    "a store that is a trial layer (set it by 'store trial flat', say)",
-                Expected::LineEnd => "nothing more on this line",
-            },
-        )
+        let text = self.text();
+        write!(f, "{text}")
     }
 }
 
@@ -98,13 +112,25 @@ pub enum Unread {
     NoMemory,
 }
 
+pub impl From<Expected> for Unread as UnreadExpected {
+    ghost converts = { λ what r. r ≡ expected what };
+
+    fn from(what: Expected) -> Unread {
+        Unread::Expected(what)
+    }
+}
+
 pub impl From<AllocError> for Unread as UnreadAlloc {
+    ghost converts = { λ _ r. r ≡ NoMemory };
+
     fn from(_error: AllocError) -> Unread {
         Unread::NoMemory
     }
 }
 
 pub impl<T: Drop> From<Refused<T>> for Unread as UnreadRefused {
+    ghost converts = { λ _ r. r ≡ NoMemory };
+
     fn from(_error: Refused<T>) -> Unread {
         Unread::NoMemory
     }

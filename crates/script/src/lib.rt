@@ -1,8 +1,4 @@
-//! The session script: lines of text into calls, and answers into text.
-pub mod answers;
+//! The session script: a line of text into a setting or a call, and an answer into text.
 pub mod calls;
-pub mod lines;
-pub mod numbers;
-pub mod rows;
+mod keywords;
 pub mod settings;
-pub mod words;

@@ -1,4 +1,7 @@
 //! What may be set before the first call.
+ghost use mathlib.Core.Path.{_≡_};
+ghost use Prim.Native.Nat.{_<_};
+ghost use Rattle.script.specs.Settings.{has-trials, store-word-in, area-in, place, with-length, at-start};
 
 /// The kind of store that a session runs over.
 #[derive(Clone, Copy)]
@@ -12,7 +15,9 @@ pub enum StoreKind {
 
 impl StoreKind {
     /// Whether the store is a trial layer.
-    pub fn has_trials(self) -> bool {
+    pub fn has_trials(self) -> bool
+        ensures { λ r. ⌜ r ≡ has-trials self ⌝ }
+    {
         match self {
             StoreKind::Flat | StoreKind::Sharing => false,
             _ => true,
@@ -20,9 +25,38 @@ impl StoreKind {
     }
 }
 
+/// The words that name a kind of store: any layers, then what they stand on.
+#[derive(Clone, Copy)]
+pub(crate) enum StoreWord {
+    Flat,
+    Sharing,
+    Trial,
+}
+
+fn store_word_named(text: &str) -> Option<StoreWord>
+    ensures { λ r. ⌜ r ≡ store-word-in (now (text .entry)) ⌝ }
+{
+    match text {
+        "flat" => Some(StoreWord::Flat),
+        "sharing" => Some(StoreWord::Sharing),
+        "trial" => Some(StoreWord::Trial),
+        _ => None,
+    }
+}
+
+/// A word as part of a store's name.
+pub(crate) fn store_word_of(word: &[u8]) -> Option<StoreWord>
+    ensures { λ r. ⌜ r ≡ store-word-in (now (word .entry)) ⌝ }
+{
+    match std::str::from_utf8(word) {
+        Ok(text) => store_word_named(text),
+        Err(_) => None,
+    }
+}
+
 /// The areas of a session: the three code tables, cells, frames, and the store's object area and method area.
 #[derive(Clone, Copy)]
-pub enum Area {
+pub(crate) enum Area {
     Contents,
     Operations,
     Methods,
@@ -30,6 +64,48 @@ pub enum Area {
     Frames,
     Objects,
     Slots,
+}
+
+impl Area {
+    /// Its place among the areas.
+    pub(crate) fn place(self) -> usize
+        ensures { λ r. ⌜ r ≡ place self ⌝ }
+    {
+        match self {
+            Area::Contents => 0,
+            Area::Operations => 1,
+            Area::Methods => 2,
+            Area::Cells => 3,
+            Area::Frames => 4,
+            Area::Objects => 5,
+            Area::Slots => 6,
+        }
+    }
+}
+
+fn area_named(text: &str) -> Option<Area>
+    ensures { λ r. ⌜ r ≡ area-in (now (text .entry)) ⌝ }
+{
+    match text {
+        "contents" => Some(Area::Contents),
+        "operations" => Some(Area::Operations),
+        "methods" => Some(Area::Methods),
+        "cells" => Some(Area::Cells),
+        "frames" => Some(Area::Frames),
+        "objects" => Some(Area::Objects),
+        "slots" => Some(Area::Slots),
+        _ => None,
+    }
+}
+
+/// The area of a name.
+pub(crate) fn area_of(word: &[u8]) -> Option<Area>
+    ensures { λ r. ⌜ r ≡ area-in (now (word .entry)) ⌝ }
+{
+    match std::str::from_utf8(word) {
+        Ok(text) => area_named(text),
+        Err(_) => None,
+    }
 }
 
 /// The length of each area.
@@ -49,7 +125,9 @@ pub const LENGTH: u32 = 4096;
 
 impl Lengths {
     /// The same with another length for one area.
-    pub fn with(self, area: Area, length: u32) -> Lengths {
+    pub(crate) fn with(self, area: Area, length: u32) -> Lengths
+        ensures { λ r. ⌜ r ≡ with-length self area length ⌝ }
+    {
         let mut lengths = self;
         match area {
             Area::Contents => lengths.contents = length,
@@ -76,7 +154,9 @@ pub struct Settings {
 
 impl Settings {
     /// What holds before the first line.
-    pub fn new() -> Settings {
+    pub fn new() -> Settings
+        ensures { λ r. ⌜ r ≡ at-start ⌝ }
+    {
         Settings {
             store: StoreKind::TrialFlat,
             lengths: Lengths {

@@ -35,5 +35,5 @@ kept r = cond (has-sign r) (plain r) r
 -- what the text of a row keeps, a row spelled out, and a value are read again
 abbrev pub ReadAgain : Type 0
 ReadAgain = ((r : Row) → Row-fits r → row-in (row-text r) ≡ Some (kept r))
-  × ((r : Row) → Row-fits r → row-in (spelled r) ≡ Some r)
-  × ((v : Value) → Value-fits v → value-in (value-text v) ≡ Some v)
+    × ((r : Row) → Row-fits r → row-in (spelled r) ≡ Some r)
+    × ((v : Value) → Value-fits v → value-in (value-text v) ≡ Some v)

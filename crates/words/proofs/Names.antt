@@ -25,7 +25,6 @@ module _ {K : Type 0} where
       apart true d = absurd (h .0 (d refl))
       apart false d = refl
 
-
 -- whether all bytes are below 128
 abbrev low : List ℕ → Bool
 low [] = true

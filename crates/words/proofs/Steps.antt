@@ -89,9 +89,9 @@ first-word (b ∷ bs) h n = by (blank b) n
 -- no word is left exactly if all is blank
 pub all-blank : (bs : List ℕ) (b : ℕ) → Run true b bs → eqb b (length bs) ≡ is-nil (words bs)
 all-blank bs b r = ⊎-elim
-  (λ e. eq-eqb _ _ e ∙ sym (ap is-nil (skip b bs r ∙ at-drop-all words bs b (omega arith))))
-  (λ n. ne-eqb _ _ n ∙ sym (ap is-nil (skip b bs r) ∙ first-word (drop b bs) (omega (arith, length-drop b bs, r .within)) (λ e. r .stops (omega (arith, r .within)) (ap blank (sym (at-front b bs)) ∙ e))))
-  (cases-eq b (length bs))
+    (λ e. eq-eqb _ _ e ∙ sym (ap is-nil (skip b bs r ∙ at-drop-all words bs b (omega arith))))
+    (λ n. ne-eqb _ _ n ∙ sym (ap is-nil (skip b bs r) ∙ first-word (drop b bs) (omega (arith, length-drop b bs, r .within)) (λ e. r .stops (omega (arith, r .within)) (ap blank (sym (at-front b bs)) ∙ e))))
+    (cases-eq b (length bs))
 
 ended-before : (w : List ℕ) (us vs : List (List ℕ)) → ended w (us ++ vs) ≡ ended w us ++ vs
 ended-before [] us vs = refl

@@ -15,10 +15,10 @@ use Rattle.words.specs.Numbers.{bits-in, integer-in}
 -- a blank parts the words before it from those behind it, and bytes with no blank among them are one word
 abbrev pub Parted : Type 0
 Parted = (words [] ≡ [])
-  × ((w : List ℕ) (b : ℕ) → All (λ c. blank c ≡ false) (b ∷ w) → words (b ∷ w) ≡ (b ∷ w) ∷ [])
-  × ((front back : List ℕ) (b : ℕ) → blank b ≡ true → words (front ++ b ∷ back) ≡ words front ++ words back)
+    × ((w : List ℕ) (b : ℕ) → All (λ c. blank c ≡ false) (b ∷ w) → words (b ∷ w) ≡ (b ∷ w) ∷ [])
+    × ((front back : List ℕ) (b : ℕ) → blank b ≡ true → words (front ++ b ∷ back) ≡ words front ++ words back)
 
 -- what is written of a number in decimal is read as that number
 abbrev pub ReadAgain : Type 0
 ReadAgain = ((k n : ℕ) → k ≤ 64 → n < 2 ^ k → bits-in k (decimal n) ≡ Some n)
-  × ((z : ℤ) → SFits w64 z → integer-in (signed z) ≡ Some z)
+    × ((z : ℤ) → SFits w64 z → integer-in (signed z) ≡ Some z)
