@@ -1,0 +1,4 @@
+pub mod Keywords
+pub mod Settings
+pub mod Messages
+pub mod Lines

@@ -1,0 +1,102 @@
+-- What a line of a script says.
+use mathlib.Core.Path.{_≡_}
+use mathlib.Core.Bool.{Bool, true, false, cond, not, _&&_}
+use mathlib.Core.List.{List, [], _∷_}
+use Prim.Native.Nat.{ℕ}
+use lib.Dec.{eqb}
+use lib.ListN.{getD, set, replicate, drop}
+use Rattle.std.specs.Options.{mapped, okOr}
+use Rattle.std.specs.Of.Vec.{vec-items}
+use Rattle.std.specs.declared.option.Option.{Option}
+use Rattle.std.specs.declared.option.Option.the-variants.{Some, None}
+use Rattle.std.specs.declared.result.Result.{Result}
+use Rattle.std.specs.declared.result.Result.the-variants.{Ok, Err}
+use Rattle.calculus.specs.declared.rows.Row.{Row}
+use Rattle.calculus.specs.declared.values.Value.{Value}
+use Rattle.calculus.specs.Places.{if-some}
+use Rattle.words.specs.Numbers.{bits-in}
+use Rattle.words.specs.Words.{words, line-text}
+use Rattle.signs.specs.Reading.{row-in, value-in}
+use Rattle.script.specs.declared.calls.Call.{Call}
+use Rattle.script.specs.declared.calls.Call.the-variants.{Check, Compile, List as ListBack, Code, Start, Run, Open, Keep, PutBack, Objects}
+use Rattle.script.specs.declared.calls.Expected.{Expected}
+use Rattle.script.specs.declared.calls.Expected.the-variants as lacks
+use Rattle.script.specs.declared.calls.Unread.{Unread}
+use Rattle.script.specs.declared.calls.Unread.the-variants as unread
+use Rattle.script.specs.declared.keywords.Verb.{Verb}
+use Rattle.script.specs.declared.keywords.Verb.the-variants as verb
+use Rattle.script.specs.declared.keywords.Keyword.{Keyword}
+use Rattle.script.specs.declared.keywords.Keyword.the-variants as key
+use Rattle.script.specs.declared.settings.StoreKind.{StoreKind}
+use Rattle.script.specs.declared.settings.StoreKind.the-variants as kind
+use Rattle.script.specs.declared.settings.StoreWord.{StoreWord}
+use Rattle.script.specs.declared.settings.StoreWord.the-variants as store
+use Rattle.script.specs.declared.settings.Area.{Area}
+use Rattle.script.specs.declared.settings.Lengths.{Lengths}
+use Rattle.script.specs.declared.settings.Settings.{Settings}
+use Rattle.script.specs.Keywords.{keyword-in, wants-trials}
+use Rattle.script.specs.Settings.{has-trials, store-word-in, area-in, place, with-length}
+
+-- a call, with its rows and its values as lists
+pub data Asked : Type 0 where
+  check : (givens : ℕ) (rows : List Row) → Asked
+  compile : (givens : ℕ) (rows : List Row) → Asked
+  list-back : (program : ℕ) → Asked
+  code : (program : ℕ) → Asked
+  start : (program allowance : ℕ) (values : List Value) → Asked
+  run : (reductions : ℕ) → Asked
+  open-trial : Asked
+  keep : (trial : ℕ) → Asked
+  put-back : (trial : ℕ) → Asked
+  objects : Asked
+
+abbrev pub asked : Call → Asked
+asked (Check g rows) = check g (vec-items rows)
+asked (Compile g rows) = compile g (vec-items rows)
+asked (ListBack p) = list-back p
+asked (Code p) = code p
+asked (Start p a values) = start p a (vec-items values)
+asked (Run n) = run n
+asked Open = open-trial
+asked (Keep t) = keep t
+asked (PutBack t) = put-back t
+asked Objects = objects
+
+module _ {X Y E : Type 0} where
+  -- what comes of a result, where there is one
+  abbrev pub then : Result X E → (X → Result Y E) → Result Y E
+  then (Ok x) f = f x
+  then (Err e) f = Err e
+
+-- the first word as a number of 32 bits
+abbrev pub number-in : Expected → List (List ℕ) → Result ℕ Expected
+number-in what [] = Err what
+number-in what (w ∷ ws) = okOr (bits-in 32 w) what
+
+-- nothing more
+abbrev pub end-in : List (List ℕ) → Result (Unit {0}) Expected
+end-in [] = Ok tt
+end-in (w ∷ ws) = Err lacks.LineEnd
+
+-- a number, and nothing more
+abbrev pub one-number-in : Expected → List (List ℕ) → Result ℕ Expected
+one-number-in what ws = then (number-in what ws) (λ n. then (end-in (drop 1 ws)) (λ _. Ok n))
+
+module _ {X : Type 0} (read : List ℕ → Option X) (what : Expected) where
+  -- all words, read alike
+  abbrev pub all-in : List (List ℕ) → Result (List X) Expected
+  all-in [] = Ok []
+  all-in (w ∷ ws) = then (okOr (read w) what) (λ x. then (all-in ws) (λ xs. Ok (x ∷ xs)))
+
+abbrev pub rows-in : List (List ℕ) → Result (List Row) Expected
+rows-in ws = all-in row-in lacks.Row ws
+
+abbrev pub values-in : List (List ℕ) → Result (List Value) Expected
+values-in ws = all-in value-in lacks.Value ws
+
+-- what was read is what the words say, unless memory failed
+module _ {X Y : Type 0} where
+  abbrev pub Reads : (X → Y) → Result Y Expected → Result X Unread → Type 0
+  Reads f said (Ok x) = said ≡ Ok (f x)
+  Reads f said (Err (unread.Expected e)) = said ≡ Err e
+  Reads f said (Err unread.NoMemory) = Unit {0}

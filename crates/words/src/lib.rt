@@ -1,0 +1,3 @@
+//! A line as words, and words as numbers.
+pub mod numbers;
+pub mod words;
