@@ -1,0 +1,3 @@
+//! Answers as text.
+pub mod answers;
+pub mod operations;
