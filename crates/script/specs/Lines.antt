@@ -73,14 +73,15 @@ abbrev pub number-in : Expected → List (List ℕ) → Result ℕ Expected
 number-in what [] = Err what
 number-in what (w ∷ ws) = okOr (bits-in 32 w) what
 
--- nothing more
-abbrev pub end-in : List (List ℕ) → Result (Unit {0}) Expected
-end-in [] = Ok tt
-end-in (w ∷ ws) = Err lacks.LineEnd
+module _ {X : Type 0} where
+  -- this, and nothing more
+  abbrev pub alone : X → List (List ℕ) → Result X Expected
+  alone x [] = Ok x
+  alone x (w ∷ ws) = Err lacks.LineEnd
 
 -- a number, and nothing more
 abbrev pub one-number-in : Expected → List (List ℕ) → Result ℕ Expected
-one-number-in what ws = then (number-in what ws) (λ n. then (end-in (drop 1 ws)) (λ _. Ok n))
+one-number-in what ws = then (number-in what ws) (λ n. alone n (drop 1 ws))
 
 module _ {X : Type 0} (read : List ℕ → Option X) (what : Expected) where
   -- all words, read alike
@@ -100,3 +101,39 @@ module _ {X Y : Type 0} where
   Reads f said (Ok x) = said ≡ Ok (f x)
   Reads f said (Err (unread.Expected e)) = said ≡ Err e
   Reads f said (Err unread.NoMemory) = Unit {0}
+
+module _ {Y : Type 0} where
+  abbrev pub by-store-word : StoreWord → Y → Y → Y → Y
+  by-store-word store.Flat a b c = a
+  by-store-word store.Sharing a b c = b
+  by-store-word store.Trial a b c = c
+
+-- the first word as a part of a store's name
+abbrev pub store-word-first : List (List ℕ) → Result StoreWord Expected
+store-word-first [] = Err lacks.StoreKind
+store-word-first (w ∷ ws) = okOr (store-word-in w) lacks.StoreKind
+
+-- a store's name and nothing more: behind two layers, behind one, and whole
+abbrev pub under-two : List (List ℕ) → Result StoreKind Expected
+under-two ws = then (store-word-first ws) (λ w. by-store-word w (Err lacks.StoreKind) (alone kind.TrialTrialSharing (drop 1 ws)) (Err lacks.StoreKind))
+
+abbrev pub under-one : List (List ℕ) → Result StoreKind Expected
+under-one ws = then (store-word-first ws) (λ w. by-store-word w (alone kind.TrialFlat (drop 1 ws)) (alone kind.TrialSharing (drop 1 ws)) (under-two (drop 1 ws)))
+
+abbrev pub store-in : List (List ℕ) → Result StoreKind Expected
+store-in ws = then (store-word-first ws) (λ w. by-store-word w (alone kind.Flat (drop 1 ws)) (alone kind.Sharing (drop 1 ws)) (under-one (drop 1 ws)))
+
+-- the area of a name that was not there before
+abbrev pub new-area-in : List Bool → List ℕ → Result Area Expected
+new-area-in named w = then (okOr (area-in w) lacks.AreaName) (λ a. cond (getD named (place a) false) (Err lacks.AreaOnce) (Ok a))
+
+-- names with their lengths, after the areas that were named
+abbrev pub lengths-after : List Bool → Lengths → List (List ℕ) → Result Lengths Expected
+lengths-after named l [] = Ok l
+lengths-after named l (w ∷ []) = then (new-area-in named w) (λ a. Err lacks.AreaLength)
+lengths-after named l (w ∷ v ∷ ws) = then (new-area-in named w) (λ a. then (okOr (bits-in 32 v) lacks.AreaLength) (λ n. lengths-after (set named (place a) true) (with-length l a n) ws))
+
+-- at least one name
+abbrev pub lengths-in : Lengths → List (List ℕ) → Result Lengths Expected
+lengths-in l [] = Err lacks.AreaName
+lengths-in l (w ∷ ws) = lengths-after (replicate 7 false) l (w ∷ ws)

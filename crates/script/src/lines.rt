@@ -2,15 +2,21 @@
 ghost use mathlib.Core.Path.{_≡_};
 ghost use mathlib.Core.List.{List};
 ghost use Prim.Native.Nat.{ℕ};
-ghost use lib.ListN.{drop};
+ghost use lib.ListN.{length, drop};
 ghost use Rattle.std.specs.Of.Vec.{vec-items};
 ghost use Rattle.std.specs.Vec.{made};
 ghost use Rattle.words.specs.Words.{left};
-ghost use Rattle.script.specs.Lines.{Reads, number-in, end-in, one-number-in, rows-in, values-in};
+ghost use Rattle.script.specs.Lines.{Reads, number-in, alone, one-number-in, rows-in, values-in, store-word-first, under-two, under-one, store-in, new-area-in, lengths-in};
 use crate::calls::Expected;
 use crate::calls::Unread;
 use crate::calls::UnreadExpected;
 use crate::calls::UnreadRefused;
+use crate::settings::Area;
+use crate::settings::Lengths;
+use crate::settings::StoreKind;
+use crate::settings::StoreWord;
+use crate::settings::area_of;
+use crate::settings::store_word_of;
 use calculus::rows::Row;
 use calculus::values::Value;
 use signs::read::read_row;
@@ -30,12 +36,12 @@ fn number(words: &mut Words<'_>, what: Expected) -> Result<u32, Expected>
     }
 }
 
-/// No word is left.
-fn line_end(words: &Words<'_>) -> Result<(), Expected>
-    ensures { λ r. ⌜ r ≡ end-in (left (now (words .entry))) ⌝ }
+/// This, where no word is left.
+fn alone<T: Drop>(words: &Words<'_>, x: T) -> Result<T, Expected>
+    ensures { λ r. ⌜ r ≡ alone x (left (now (words .entry))) ⌝ }
 {
     if words.is_empty() {
-        Ok(())
+        Ok(x)
     } else {
         Err(Expected::LineEnd)
     }
@@ -46,8 +52,7 @@ fn one_number(words: &mut Words<'_>, what: Expected) -> Result<u32, Expected>
     ensures { λ r. ⌜ r ≡ one-number-in what (left (now (words .entry))) ⌝ }
 {
     let n = number(words, what)?;
-    line_end(words)?;
-    Ok(n)
+    alone(words, n)
 }
 
 /// All words that are left, as rows.
@@ -72,4 +77,77 @@ fn all_values(heap: Global, words: &mut Words<'_>) -> Result<Vec<Value>, Unread>
         values.push(value)?;
     }
     Ok(values)
+}
+
+/// The next word as a part of a store's name.
+fn store_word(words: &mut Words<'_>) -> Result<StoreWord, Expected>
+    ensures value { λ r. ⌜ r ≡ store-word-first (left (now (words .entry))) ⌝ }
+    ensures rest { λ _. ⌜ left (now (words .exit)) ≡ drop 1 (left (now (words .entry))) ⌝ }
+{
+    match words.next_word() {
+        Some(word) => store_word_of(word).ok_or(Expected::StoreKind),
+        None => Err(Expected::StoreKind),
+    }
+}
+
+/// The kind of store whose name goes on behind two layers.
+fn two_layers(words: &mut Words<'_>) -> Result<StoreKind, Expected>
+    ensures { λ r. ⌜ r ≡ under-two (left (now (words .entry))) ⌝ }
+{
+    match store_word(words)? {
+        StoreWord::Sharing => alone(words, StoreKind::TrialTrialSharing),
+        StoreWord::Flat | StoreWord::Trial => Err(Expected::StoreKind),
+    }
+}
+
+/// The kind of store whose name goes on behind one layer.
+fn one_layer(words: &mut Words<'_>) -> Result<StoreKind, Expected>
+    ensures { λ r. ⌜ r ≡ under-one (left (now (words .entry))) ⌝ }
+{
+    match store_word(words)? {
+        StoreWord::Flat => alone(words, StoreKind::TrialFlat),
+        StoreWord::Sharing => alone(words, StoreKind::TrialSharing),
+        StoreWord::Trial => two_layers(words),
+    }
+}
+
+/// The kind of store that the words that are left name.
+fn store_kind(words: &mut Words<'_>) -> Result<StoreKind, Expected>
+    ensures { λ r. ⌜ r ≡ store-in (left (now (words .entry))) ⌝ }
+{
+    match store_word(words)? {
+        StoreWord::Flat => alone(words, StoreKind::Flat),
+        StoreWord::Sharing => alone(words, StoreKind::Sharing),
+        StoreWord::Trial => one_layer(words),
+    }
+}
+
+/// The area of a name, if it was not named before.
+fn new_area(named: &[bool], word: &[u8]) -> Result<Area, Expected>
+    requires { ⌜ length (now named) ≡ 7 ⌝ }
+    ensures { λ r. ⌜ r ≡ new-area-in (now (named .entry)) (now (word .entry)) ⌝ }
+{
+    let area = area_of(word).ok_or(Expected::AreaName)?;
+    if named[area.place()] {
+        return Err(Expected::AreaOnce);
+    }
+    Ok(area)
+}
+
+/// The lengths that the words that are left name; the others stay as they are.
+fn named_lengths(words: &mut Words<'_>, lengths: Lengths) -> Result<Lengths, Expected>
+    ensures { λ r. ⌜ r ≡ lengths-in lengths (left (now (words .entry))) ⌝ }
+{
+    if words.is_empty() {
+        return Err(Expected::AreaName);
+    }
+    let mut lengths = lengths;
+    let mut named = [false; 7];
+    while let Some(word) = words.next_word() {
+        let area = new_area(&named, word)?;
+        let length = number(words, Expected::AreaLength)?;
+        named[area.place()] = true;
+        lengths = lengths.with(area, length);
+    }
+    Ok(lengths)
 }
