@@ -137,3 +137,60 @@ lengths-after named l (w ∷ v ∷ ws) = then (new-area-in named w) (λ a. then 
 abbrev pub lengths-in : Lengths → List (List ℕ) → Result Lengths Expected
 lengths-in l [] = Err lacks.AreaName
 lengths-in l (w ∷ ws) = lengths-after (replicate 7 false) l (w ∷ ws)
+
+-- a setting can be made before the first call, and once
+abbrev pub may-set : Settings → Bool → Result (Unit {0}) Expected
+may-set s is-set = cond (s .«calls_begun») (Err lacks.SettingFirst) (cond is-set (Err lacks.SettingOnce) (Ok tt))
+
+abbrev pub store-line : Settings → List (List ℕ) → Result Settings Expected
+store-line s ws =
+    then (may-set s (s .«store_set»)) (λ _.
+    then (store-in ws) (λ k.
+    Ok (record { store = k; lengths = s .lengths; «store_set» = true; «lengths_set» = s .«lengths_set»; «calls_begun» = s .«calls_begun» })))
+
+abbrev pub lengths-line : Settings → List (List ℕ) → Result Settings Expected
+lengths-line s ws =
+    then (may-set s (s .«lengths_set»)) (λ _.
+    then (lengths-in (s .lengths) ws) (λ l.
+    Ok (record { store = s .store; lengths = l; «store_set» = s .«store_set»; «lengths_set» = true; «calls_begun» = s .«calls_begun» })))
+
+-- the call of a verb, and of the words behind it
+abbrev pub call-in : Verb → List (List ℕ) → Result Asked Expected
+call-in verb.Check ws = then (number-in lacks.Givens ws) (λ g. then (rows-in (drop 1 ws)) (λ rows. Ok (check g rows)))
+call-in verb.Compile ws = then (number-in lacks.Givens ws) (λ g. then (rows-in (drop 1 ws)) (λ rows. Ok (compile g rows)))
+call-in verb.List ws = then (one-number-in lacks.Program ws) (λ p. Ok (list-back p))
+call-in verb.Code ws = then (one-number-in lacks.Program ws) (λ p. Ok (code p))
+call-in verb.Start ws = then (number-in lacks.Program ws) (λ p. then (number-in lacks.Allowance (drop 1 ws)) (λ a. then (values-in (drop 1 (drop 1 ws))) (λ values. Ok (start p a values))))
+call-in verb.Run ws = then (one-number-in lacks.Reductions ws) (λ n. Ok (run n))
+call-in verb.Open ws = alone open-trial ws
+call-in verb.Keep ws = then (one-number-in lacks.Trial ws) (λ t. Ok (keep t))
+call-in verb.PutBack ws = then (one-number-in lacks.Trial ws) (λ t. Ok (put-back t))
+call-in verb.Objects ws = alone objects ws
+
+-- trials are a trial layer's
+abbrev pub call-over : StoreKind → Verb → List (List ℕ) → Result Asked Expected
+call-over k v ws = then (call-in v ws) (λ a. cond (wants-trials v && not (has-trials k)) (Err lacks.TrialLayer) (Ok a))
+
+abbrev pub begun : Settings → Settings
+begun s = record { store = s .store; lengths = s .lengths; «store_set» = s .«store_set»; «lengths_set» = s .«lengths_set»; «calls_begun» = true }
+
+-- a setting says nothing more, a call is handed on
+abbrev pub keyword-line : Settings → Keyword → List (List ℕ) → Result (Settings × Option Asked) Expected
+keyword-line s key.Store ws = then (store-line s ws) (λ t. Ok (t, None))
+keyword-line s key.Lengths ws = then (lengths-line s ws) (λ t. Ok (t, None))
+keyword-line s (key.Call v) ws = then (call-over (s .store) v ws) (λ a. Ok (begun s, Some a))
+
+abbrev pub is-comment : List ℕ → Bool
+is-comment [] = false
+is-comment (b ∷ bs) = eqb b 35
+
+-- the settings after a line, and its call if it is one
+abbrev pub says : Settings → List (List ℕ) → Result (Settings × Option Asked) Expected
+says s [] = Ok (s, None)
+says s (w ∷ ws) = cond (is-comment w) (Ok (s, None)) (if-some (keyword-in w) (λ k. keyword-line s k ws) (Err lacks.Keyword))
+
+-- what was read is what the line says, unless memory failed; only a line that was read changes the settings
+abbrev pub ReadsLine : Settings → Result (Settings × Option Asked) Expected → Result (Option Call) Unread → Settings → Type 0
+ReadsLine s said (Ok o) t = said ≡ Ok (t, mapped asked o)
+ReadsLine s said (Err (unread.Expected e)) t = (said ≡ Err e) × (t ≡ s)
+ReadsLine s said (Err unread.NoMemory) t = t ≡ s

@@ -6,13 +6,16 @@ ghost use lib.ListN.{length, drop};
 ghost use Rattle.std.specs.Of.Vec.{vec-items};
 ghost use Rattle.std.specs.Vec.{made};
 ghost use Rattle.words.specs.Words.{left};
-ghost use Rattle.script.specs.Lines.{Reads, number-in, alone, one-number-in, rows-in, values-in, store-word-first, under-two, under-one, store-in, new-area-in, lengths-in};
+ghost use Rattle.script.specs.Lines.{Reads, number-in, alone, one-number-in, rows-in, values-in, store-word-first, under-two, under-one, store-in, new-area-in, lengths-in, may-set, store-line, lengths-line, asked, call-in};
+use crate::calls::Call;
 use crate::calls::Expected;
 use crate::calls::Unread;
 use crate::calls::UnreadExpected;
 use crate::calls::UnreadRefused;
+use crate::keywords::Verb;
 use crate::settings::Area;
 use crate::settings::Lengths;
+use crate::settings::Settings;
 use crate::settings::StoreKind;
 use crate::settings::StoreWord;
 use crate::settings::area_of;
@@ -150,4 +153,95 @@ fn named_lengths(words: &mut Words<'_>, lengths: Lengths) -> Result<Lengths, Exp
         lengths = lengths.with(area, length);
     }
     Ok(lengths)
+}
+
+/// A setting can still be made.
+fn may_set(settings: Settings, is_set: bool) -> Result<(), Expected>
+    ensures { λ r. ⌜ r ≡ may-set settings «is_set» ⌝ }
+{
+    if settings.calls_begun {
+        return Err(Expected::SettingFirst);
+    }
+    if is_set {
+        return Err(Expected::SettingOnce);
+    }
+    Ok(())
+}
+
+/// The settings with the store that the words that are left name.
+fn store_line(settings: Settings, words: &mut Words<'_>) -> Result<Settings, Expected>
+    ensures { λ r. ⌜ r ≡ store-line settings (left (now (words .entry))) ⌝ }
+{
+    may_set(settings, settings.store_set)?;
+    let mut settings = settings;
+    settings.store = store_kind(words)?;
+    settings.store_set = true;
+    Ok(settings)
+}
+
+/// The settings with the lengths that the words that are left name.
+fn lengths_line(settings: Settings, words: &mut Words<'_>) -> Result<Settings, Expected>
+    ensures { λ r. ⌜ r ≡ lengths-line settings (left (now (words .entry))) ⌝ }
+{
+    may_set(settings, settings.lengths_set)?;
+    let mut settings = settings;
+    settings.lengths = named_lengths(words, settings.lengths)?;
+    settings.lengths_set = true;
+    Ok(settings)
+}
+
+/// The call of a verb, and of the words that are left.
+fn call_of(heap: Global, verb: Verb, words: &mut Words<'_>) -> Result<Call, Unread>
+    ensures { λ r. ⌜ Reads asked (call-in verb (left (now (words .entry)))) r ⌝ }
+{
+    match verb {
+        Verb::Check => {
+            let givens = number(words, Expected::Givens)?;
+            let rows = all_rows(heap, words)?;
+            Ok(Call::Check { givens, rows })
+        }
+        Verb::Compile => {
+            let givens = number(words, Expected::Givens)?;
+            let rows = all_rows(heap, words)?;
+            Ok(Call::Compile { givens, rows })
+        }
+        Verb::List => {
+            let program = one_number(words, Expected::Program)?;
+            Ok(Call::List { program })
+        }
+        Verb::Code => {
+            let program = one_number(words, Expected::Program)?;
+            Ok(Call::Code { program })
+        }
+        Verb::Start => {
+            let program = number(words, Expected::Program)?;
+            let allowance = number(words, Expected::Allowance)?;
+            let values = all_values(heap, words)?;
+            Ok(Call::Start {
+                program,
+                allowance,
+                values,
+            })
+        }
+        Verb::Run => {
+            let reductions = one_number(words, Expected::Reductions)?;
+            Ok(Call::Run { reductions })
+        }
+        Verb::Open => {
+            alone(words, ())?;
+            Ok(Call::Open)
+        }
+        Verb::Keep => {
+            let trial = one_number(words, Expected::Trial)?;
+            Ok(Call::Keep { trial })
+        }
+        Verb::PutBack => {
+            let trial = one_number(words, Expected::Trial)?;
+            Ok(Call::PutBack { trial })
+        }
+        Verb::Objects => {
+            alone(words, ())?;
+            Ok(Call::Objects)
+        }
+    }
 }
