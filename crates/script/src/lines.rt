@@ -5,14 +5,16 @@ ghost use Prim.Native.Nat.{ℕ};
 ghost use lib.ListN.{length, drop};
 ghost use Rattle.std.specs.Of.Vec.{vec-items};
 ghost use Rattle.std.specs.Vec.{made};
-ghost use Rattle.words.specs.Words.{left};
-ghost use Rattle.script.specs.Lines.{Reads, number-in, alone, one-number-in, rows-in, values-in, store-word-first, under-two, under-one, store-in, new-area-in, lengths-in, may-set, store-line, lengths-line, asked, call-in};
+ghost use Rattle.words.specs.Words.{line-text, words, left};
+ghost use Rattle.script.specs.Lines.{Reads, number-in, alone, one-number-in, rows-in, values-in, store-word-first, under-two, under-one, store-in, new-area-in, lengths-in, may-set, store-line, lengths-line, asked, call-in, call-over, is-comment, says, ReadsLine};
 use crate::calls::Call;
 use crate::calls::Expected;
 use crate::calls::Unread;
 use crate::calls::UnreadExpected;
 use crate::calls::UnreadRefused;
+use crate::keywords::Keyword;
 use crate::keywords::Verb;
+use crate::keywords::keyword_of;
 use crate::settings::Area;
 use crate::settings::Lengths;
 use crate::settings::Settings;
@@ -27,6 +29,7 @@ use signs::read::read_value;
 use std::alloc::Global;
 use words::numbers::natural_32;
 use words::words::Words;
+use words::words::without_end;
 
 /// The next word as a number of 32 bits.
 fn number(words: &mut Words<'_>, what: Expected) -> Result<u32, Expected>
@@ -242,6 +245,65 @@ fn call_of(heap: Global, verb: Verb, words: &mut Words<'_>) -> Result<Call, Unre
         Verb::Objects => {
             alone(words, ())?;
             Ok(Call::Objects)
+        }
+    }
+}
+
+/// The call of a verb, if the store has what it asks for.
+fn call_over(
+    heap: Global,
+    store: StoreKind,
+    verb: Verb,
+    words: &mut Words<'_>,
+) -> Result<Call, Unread>
+    ensures { λ r. ⌜ Reads asked (call-over store verb (left (now (words .entry)))) r ⌝ }
+{
+    let call = call_of(heap, verb, words)?;
+    if verb.wants_trials() && !store.has_trials() {
+        return Err(Unread::Expected(Expected::TrialLayer));
+    }
+    Ok(call)
+}
+
+/// Whether a line that begins with this word is passed over.
+fn is_comment(word: &[u8]) -> bool
+    ensures { λ r. ⌜ r ≡ is-comment (now (word .entry)) ⌝ }
+{
+    match word {
+        [b'#', ..] => true,
+        _ => false,
+    }
+}
+
+/// Reads a line, with or without its end: a setting is made, a call is handed on, and an empty line or a comment is passed over.
+pub fn read_line(
+    heap: Global,
+    settings: &mut Settings,
+    line: &[u8],
+) -> Result<Option<Call>, Unread>
+    ensures { λ r. ⌜ ReadsLine (now (settings .entry)) (says (now (settings .entry)) (words (line-text (now (line .entry))))) r (now (settings .exit)) ⌝ }
+{
+    let mut words = Words::new(without_end(line));
+    let Some(word) = words.next_word() else {
+        return Ok(None);
+    };
+    if is_comment(word) {
+        return Ok(None);
+    }
+    match keyword_of(word) {
+        None => Err(Unread::Expected(Expected::Keyword)),
+        Some(Keyword::Store) => {
+            *settings = store_line(*settings, &mut words)?;
+            Ok(None)
+        }
+        Some(Keyword::Lengths) => {
+            *settings = lengths_line(*settings, &mut words)?;
+            Ok(None)
+        }
+        Some(Keyword::Call(verb)) => {
+            let call = call_over(heap, settings.store, verb, &mut words)?;
+            settings.calls_begun = true;
+            Ok(Some(call))
         }
     }
 }
