@@ -73,14 +73,15 @@ abbrev pub number-in : Expected → List (List ℕ) → Result ℕ Expected
 number-in what [] = Err what
 number-in what (w ∷ ws) = okOr (bits-in 32 w) what
 
--- nothing more
-abbrev pub end-in : List (List ℕ) → Result (Unit {0}) Expected
-end-in [] = Ok tt
-end-in (w ∷ ws) = Err lacks.LineEnd
+module _ {X : Type 0} where
+  -- this, and nothing more
+  abbrev pub alone : X → List (List ℕ) → Result X Expected
+  alone x [] = Ok x
+  alone x (w ∷ ws) = Err lacks.LineEnd
 
 -- a number, and nothing more
 abbrev pub one-number-in : Expected → List (List ℕ) → Result ℕ Expected
-one-number-in what ws = then (number-in what ws) (λ n. then (end-in (drop 1 ws)) (λ _. Ok n))
+one-number-in what ws = then (number-in what ws) (λ n. alone n (drop 1 ws))
 
 module _ {X : Type 0} (read : List ℕ → Option X) (what : Expected) where
   -- all words, read alike
@@ -100,3 +101,96 @@ module _ {X Y : Type 0} where
   Reads f said (Ok x) = said ≡ Ok (f x)
   Reads f said (Err (unread.Expected e)) = said ≡ Err e
   Reads f said (Err unread.NoMemory) = Unit {0}
+
+module _ {Y : Type 0} where
+  abbrev pub by-store-word : StoreWord → Y → Y → Y → Y
+  by-store-word store.Flat a b c = a
+  by-store-word store.Sharing a b c = b
+  by-store-word store.Trial a b c = c
+
+-- the first word as a part of a store's name
+abbrev pub store-word-first : List (List ℕ) → Result StoreWord Expected
+store-word-first [] = Err lacks.StoreKind
+store-word-first (w ∷ ws) = okOr (store-word-in w) lacks.StoreKind
+
+-- a store's name and nothing more: behind two layers, behind one, and whole
+abbrev pub under-two : List (List ℕ) → Result StoreKind Expected
+under-two ws = then (store-word-first ws) (λ w. by-store-word w (Err lacks.StoreKind) (alone kind.TrialTrialSharing (drop 1 ws)) (Err lacks.StoreKind))
+
+abbrev pub under-one : List (List ℕ) → Result StoreKind Expected
+under-one ws = then (store-word-first ws) (λ w. by-store-word w (alone kind.TrialFlat (drop 1 ws)) (alone kind.TrialSharing (drop 1 ws)) (under-two (drop 1 ws)))
+
+abbrev pub store-in : List (List ℕ) → Result StoreKind Expected
+store-in ws = then (store-word-first ws) (λ w. by-store-word w (alone kind.Flat (drop 1 ws)) (alone kind.Sharing (drop 1 ws)) (under-one (drop 1 ws)))
+
+-- the area of a name that was not there before
+abbrev pub new-area-in : List Bool → List ℕ → Result Area Expected
+new-area-in named w = then (okOr (area-in w) lacks.AreaName) (λ a. cond (getD named (place a) false) (Err lacks.AreaOnce) (Ok a))
+
+-- names with their lengths, after the areas that were named
+abbrev pub lengths-after : List Bool → Lengths → List (List ℕ) → Result Lengths Expected
+lengths-after named l [] = Ok l
+lengths-after named l (w ∷ []) = then (new-area-in named w) (λ a. Err lacks.AreaLength)
+lengths-after named l (w ∷ v ∷ ws) = then (new-area-in named w) (λ a. then (okOr (bits-in 32 v) lacks.AreaLength) (λ n. lengths-after (set named (place a) true) (with-length l a n) ws))
+
+-- at least one name
+abbrev pub lengths-in : Lengths → List (List ℕ) → Result Lengths Expected
+lengths-in l [] = Err lacks.AreaName
+lengths-in l (w ∷ ws) = lengths-after (replicate 7 false) l (w ∷ ws)
+
+-- a setting can be made before the first call, and once
+abbrev pub may-set : Settings → Bool → Result (Unit {0}) Expected
+may-set s is-set = cond (s .«calls_begun») (Err lacks.SettingFirst) (cond is-set (Err lacks.SettingOnce) (Ok tt))
+
+abbrev pub store-line : Settings → List (List ℕ) → Result Settings Expected
+store-line s ws =
+    then (may-set s (s .«store_set»)) (λ _.
+    then (store-in ws) (λ k.
+    Ok (record { store = k; lengths = s .lengths; «store_set» = true; «lengths_set» = s .«lengths_set»; «calls_begun» = s .«calls_begun» })))
+
+abbrev pub lengths-line : Settings → List (List ℕ) → Result Settings Expected
+lengths-line s ws =
+    then (may-set s (s .«lengths_set»)) (λ _.
+    then (lengths-in (s .lengths) ws) (λ l.
+    Ok (record { store = s .store; lengths = l; «store_set» = s .«store_set»; «lengths_set» = true; «calls_begun» = s .«calls_begun» })))
+
+-- the call of a verb, and of the words behind it
+abbrev pub call-in : Verb → List (List ℕ) → Result Asked Expected
+call-in verb.Check ws = then (number-in lacks.Givens ws) (λ g. then (rows-in (drop 1 ws)) (λ rows. Ok (check g rows)))
+call-in verb.Compile ws = then (number-in lacks.Givens ws) (λ g. then (rows-in (drop 1 ws)) (λ rows. Ok (compile g rows)))
+call-in verb.List ws = then (one-number-in lacks.Program ws) (λ p. Ok (list-back p))
+call-in verb.Code ws = then (one-number-in lacks.Program ws) (λ p. Ok (code p))
+call-in verb.Start ws = then (number-in lacks.Program ws) (λ p. then (number-in lacks.Allowance (drop 1 ws)) (λ a. then (values-in (drop 1 (drop 1 ws))) (λ values. Ok (start p a values))))
+call-in verb.Run ws = then (one-number-in lacks.Reductions ws) (λ n. Ok (run n))
+call-in verb.Open ws = alone open-trial ws
+call-in verb.Keep ws = then (one-number-in lacks.Trial ws) (λ t. Ok (keep t))
+call-in verb.PutBack ws = then (one-number-in lacks.Trial ws) (λ t. Ok (put-back t))
+call-in verb.Objects ws = alone objects ws
+
+-- trials are a trial layer's
+abbrev pub call-over : StoreKind → Verb → List (List ℕ) → Result Asked Expected
+call-over k v ws = then (call-in v ws) (λ a. cond (wants-trials v && not (has-trials k)) (Err lacks.TrialLayer) (Ok a))
+
+abbrev pub begun : Settings → Settings
+begun s = record { store = s .store; lengths = s .lengths; «store_set» = s .«store_set»; «lengths_set» = s .«lengths_set»; «calls_begun» = true }
+
+-- a setting says nothing more, a call is handed on
+abbrev pub keyword-line : Settings → Keyword → List (List ℕ) → Result (Settings × Option Asked) Expected
+keyword-line s key.Store ws = then (store-line s ws) (λ t. Ok (t, None))
+keyword-line s key.Lengths ws = then (lengths-line s ws) (λ t. Ok (t, None))
+keyword-line s (key.Call v) ws = then (call-over (s .store) v ws) (λ a. Ok (begun s, Some a))
+
+abbrev pub is-comment : List ℕ → Bool
+is-comment [] = false
+is-comment (b ∷ bs) = eqb b 35
+
+-- the settings after a line, and its call if it is one
+abbrev pub says : Settings → List (List ℕ) → Result (Settings × Option Asked) Expected
+says s [] = Ok (s, None)
+says s (w ∷ ws) = cond (is-comment w) (Ok (s, None)) (if-some (keyword-in w) (λ k. keyword-line s k ws) (Err lacks.Keyword))
+
+-- what was read is what the line says, unless memory failed; only a line that was read changes the settings
+abbrev pub ReadsLine : Settings → Result (Settings × Option Asked) Expected → Result (Option Call) Unread → Settings → Type 0
+ReadsLine s said (Ok o) t = said ≡ Ok (t, mapped asked o)
+ReadsLine s said (Err (unread.Expected e)) t = (said ≡ Err e) × (t ≡ s)
+ReadsLine s said (Err unread.NoMemory) t = t ≡ s
