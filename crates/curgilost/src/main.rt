@@ -38,7 +38,11 @@ use trial_layer::trial_store::TrialStore;
 /// How long an area is made: a longer one counts as no longer.
 fn area(length: u32) -> usize {
     let length = length as usize;
-    if length < MOST_ENTRIES { length } else { MOST_ENTRIES }
+    if length < MOST_ENTRIES {
+        length
+    } else {
+        MOST_ENTRIES
+    }
 }
 
 /// A session over this store, from the first call to the end of the script.

@@ -34,11 +34,7 @@ fn compiled<S: Store>(session: &mut Session<'_, S>, rows: &[Row], givens: u32) -
 }
 
 /// Lists a program back and prints its rows.
-fn list<S: Store>(
-    script: &Script,
-    session: &Session<'_, S>,
-    program: u32,
-) -> io::Result<()> {
+fn list<S: Store>(script: &Script, session: &Session<'_, S>, program: u32) -> io::Result<()> {
     let heap = script.heap();
     let blank = Row {
         kind: 0,

@@ -74,7 +74,10 @@ impl Script {
                     }
                 },
                 Err(error) => {
-                    eprintln!(self.rt, "line {number}: expected text (UTF-8) that can be read: {error}")?;
+                    eprintln!(
+                        self.rt,
+                        "line {number}: expected text (UTF-8) that can be read: {error}"
+                    )?;
                     return Err(error);
                 }
             }

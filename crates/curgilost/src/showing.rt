@@ -100,6 +100,14 @@ pub fn print_code<S: Store>(
     Ok(())
 }
 
+/// The cell that an environment begins with.
+fn first_cell<S: Store>(session: &Session<'_, S>, env: u32) -> Option<Cell> {
+    if env == 0 {
+        return None;
+    }
+    session.cell(env as usize - 1)
+}
+
 /// The values of an environment, the nearest first, parted by blanks.
 fn push_values<S: Store>(
     script: &Script,
@@ -109,10 +117,7 @@ fn push_values<S: Store>(
 ) -> Result<(), AllocError> {
     let mut env = env;
     for i in 0..MOST_ENTRIES {
-        if env == 0 {
-            return Ok(());
-        }
-        let Some(cell) = session.cell(env as usize - 1) else {
+        let Some(cell) = first_cell(session, env) else {
             return Ok(());
         };
         if i > 0 {

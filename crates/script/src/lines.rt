@@ -276,11 +276,7 @@ fn is_comment(word: &[u8]) -> bool
 }
 
 /// Reads a line, with or without its end: a setting is made, a call is handed on, and an empty line or a comment is passed over.
-pub fn read_line(
-    heap: Global,
-    settings: &mut Settings,
-    line: &[u8],
-) -> Result<Option<Call>, Unread>
+pub fn read_line(heap: Global, settings: &mut Settings, line: &[u8]) -> Result<Option<Call>, Unread>
     ensures { λ r. ⌜ ReadsLine (now (settings .entry)) (says (now (settings .entry)) (words (line-text (now (line .entry))))) r (now (settings .exit)) ⌝ }
 {
     let mut words = Words::new(without_end(line));
