@@ -1,4 +1,7 @@
 //! Reads a session script on standard input and prints the answers.
+ghost use mathlib.Core.Path.{_≡_};
+ghost use Rattle.curgilost.specs.Answering.{answered};
+ghost use Rattle.rows.specs.Verdict.{verdict};
 use calculus::rows::Row;
 use rows::check_rows;
 use script::answers::Answer;
@@ -13,25 +16,16 @@ use std::io::BufRead;
 use std::io::BufReader;
 
 /// What `check` answers.
-fn checked(rows: &[Row], givens: u32) -> Answer {
+fn checked(rows: &[Row], givens: u32) -> Answer
+    ensures { λ r. ⌜ r ≡ answered (verdict (now (rows .entry)) givens) ⌝ }
+{
     match check_rows(rows, givens) {
         Ok(sizes) => Answer::Sizes(sizes),
         Err(refusal) => Answer::Refused(refusal),
     }
 }
 
-/// Carries out a call and prints its answer; false where this release does not know it.
-fn perform(rt: &LibcRuntime, call: Call) -> io::Result<bool> {
-    match call {
-        Call::Check { givens, rows } => {
-            rt.println(checked(&rows, givens))?;
-            Ok(true)
-        }
-        _ => Ok(false),
-    }
-}
-
-/// Ends the script at a line, after a message that says what was expected there.
+/// Ends the script at a line.
 fn stop(rt: &LibcRuntime, line: u64, unread: Unread) -> io::Result<()> {
     match unread {
         Unread::Expected(what) => eprintln!(rt, "line {line}: expected {what}")?,
@@ -40,22 +34,31 @@ fn stop(rt: &LibcRuntime, line: u64, unread: Unread) -> io::Result<()> {
     Err(io::Error::other("the script was not read to its end"))
 }
 
+/// Carries out the call of a line and prints its answer.
+fn perform(rt: &LibcRuntime, line: u64, call: Call) -> io::Result<()> {
+    match call {
+        Call::Check { givens, rows } => rt.println(checked(&rows, givens)),
+        _ => {
+            eprintln!(rt, "line {line}: this call is not known yet")?;
+            Err(io::Error::other("the script was not read to its end"))
+        }
+    }
+}
+
 /// Reads and answers line after line.
 fn answer_lines(rt: &LibcRuntime) -> io::Result<()> {
     let heap = rt.alloc();
     let mut settings = Settings::new();
-    let mut number = 0u64;
-    for line in BufReader::new(rt.stdin()).lines(heap) {
-        number = number.saturating_add(1);
-        let line = line?;
-        match read_line(heap, &mut settings, line.as_bytes()) {
+    let mut input = BufReader::new(rt.stdin());
+    let mut line = Vec::new(heap);
+    for number in 1..u64::MAX {
+        line.clear();
+        if input.read_until(b'\n', &mut line)? == 0 {
+            break;
+        }
+        match read_line(heap, &mut settings, &line) {
             Ok(None) => {}
-            Ok(Some(call)) => {
-                if !perform(rt, call)? {
-                    eprintln!(rt, "line {number}: this call is not known yet")?;
-                    return Err(io::Error::other("the script was not read to its end"));
-                }
-            }
+            Ok(Some(call)) => perform(rt, number, call)?,
             Err(unread) => return stop(rt, number, unread),
         }
     }
