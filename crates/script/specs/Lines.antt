@@ -15,7 +15,7 @@ use Rattle.calculus.specs.declared.rows.Row.{Row}
 use Rattle.calculus.specs.declared.values.Value.{Value}
 use Rattle.calculus.specs.Places.{if-some}
 use Rattle.words.specs.Numbers.{bits-in}
-use Rattle.words.specs.Words.{words, line-text}
+use Rattle.words.specs.Words.{words-in, line-text}
 use Rattle.signs.specs.Reading.{row-in, value-in}
 use Rattle.script.specs.declared.calls.Call.{Call}
 use Rattle.script.specs.declared.calls.Call.the-variants.{Check, Compile, List as ListBack, Code, Start, Run, Open, Keep, PutBack, Objects}
@@ -188,6 +188,10 @@ is-comment (b ∷ bs) = eqb b 35
 abbrev pub says : Settings → List (List ℕ) → Result (Settings × Option Asked) Expected
 says s [] = Ok (s, None)
 says s (w ∷ ws) = cond (is-comment w) (Ok (s, None)) (if-some (keyword-in w) (λ k. keyword-line s k ws) (Err lacks.Keyword))
+
+-- a line is its words
+abbrev pub line-says : Settings → List ℕ → Result (Settings × Option Asked) Expected
+line-says s line = says s (words-in (line-text line))
 
 -- what was read is what the line says, unless memory failed; only a line that was read changes the settings
 abbrev pub ReadsLine : Settings → Result (Settings × Option Asked) Expected → Result (Option Call) Unread → Settings → Type 0

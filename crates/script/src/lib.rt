@@ -1,4 +1,4 @@
-//! The session script: a line of text into a setting or a call, and an answer into text.
+//! The session script: a line of text into a setting or a call.
 pub mod calls;
 mod keywords;
 pub mod lines;

@@ -5,8 +5,8 @@ ghost use Prim.Native.Nat.{ℕ};
 ghost use lib.ListN.{length, drop};
 ghost use Rattle.std.specs.Of.Vec.{vec-items};
 ghost use Rattle.std.specs.Vec.{made};
-ghost use Rattle.words.specs.Words.{line-text, words, left};
-ghost use Rattle.script.specs.Lines.{Reads, number-in, alone, one-number-in, rows-in, values-in, store-word-first, under-two, under-one, store-in, new-area-in, lengths-in, may-set, store-line, lengths-line, asked, call-in, call-over, is-comment, says, ReadsLine};
+ghost use Rattle.words.specs.Words.{left};
+ghost use Rattle.script.specs.Lines.{Reads, number-in, alone, one-number-in, rows-in, values-in, store-word-first, under-two, under-one, store-in, new-area-in, lengths-in, may-set, store-line, lengths-line, asked, call-in, call-over, is-comment, line-says, ReadsLine};
 use crate::calls::Call;
 use crate::calls::Expected;
 use crate::calls::Unread;
@@ -277,7 +277,7 @@ fn is_comment(word: &[u8]) -> bool
 
 /// Reads a line, with or without its end: a setting is made, a call is handed on, and an empty line or a comment is passed over.
 pub fn read_line(heap: Global, settings: &mut Settings, line: &[u8]) -> Result<Option<Call>, Unread>
-    ensures { λ r. ⌜ ReadsLine (now (settings .entry)) (says (now (settings .entry)) (words (line-text (now (line .entry))))) r (now (settings .exit)) ⌝ }
+    ensures { λ r. ⌜ ReadsLine (now (settings .entry)) (line-says (now (settings .entry)) (now (line .entry))) r (now (settings .exit)) ⌝ }
 {
     let mut words = Words::new(without_end(line));
     let Some(word) = words.next_word() else {

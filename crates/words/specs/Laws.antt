@@ -9,14 +9,14 @@ use mir.Val.{SFits}
 use Rattle.std.specs.shelf.Lists.{All}
 use Rattle.std.specs.Written.{decimal, signed}
 use Rattle.std.specs.declared.option.Option.the-variants.{Some}
-use Rattle.words.specs.Words.{blank, words}
+use Rattle.words.specs.Words.{blank, words-in}
 use Rattle.words.specs.Numbers.{bits-in, integer-in}
 
 -- a blank parts the words before it from those behind it, and bytes with no blank among them are one word
 abbrev pub Parted : Type 0
-Parted = (words [] ≡ [])
-    × ((w : List ℕ) (b : ℕ) → All (λ c. blank c ≡ false) (b ∷ w) → words (b ∷ w) ≡ (b ∷ w) ∷ [])
-    × ((front back : List ℕ) (b : ℕ) → blank b ≡ true → words (front ++ b ∷ back) ≡ words front ++ words back)
+Parted = (words-in [] ≡ [])
+    × ((w : List ℕ) (b : ℕ) → All (λ c. blank c ≡ false) (b ∷ w) → words-in (b ∷ w) ≡ (b ∷ w) ∷ [])
+    × ((front back : List ℕ) (b : ℕ) → blank b ≡ true → words-in (front ++ b ∷ back) ≡ words-in front ++ words-in back)
 
 -- what is written of a number in decimal is read as that number
 abbrev pub ReadAgain : Type 0

@@ -31,12 +31,12 @@ abbrev pub words-after : List ℕ → List ℕ → List (List ℕ)
 words-after w [] = ended w []
 words-after w (b ∷ bs) = cond (blank b) (ended w (words-after [] bs)) (words-after (w ++ b ∷ []) bs)
 
-abbrev pub words : List ℕ → List (List ℕ)
-words line = words-after [] line
+abbrev pub words-in : List ℕ → List (List ℕ)
+words-in line = words-after [] line
 
 -- the words that are still to be read
 abbrev pub left : Words → List (List ℕ)
-left ws = words (ws .rest .now)
+left ws = words-in (ws .rest .now)
 
 abbrev pub is-nil : List (List ℕ) → Bool
 is-nil [] = true

@@ -3,7 +3,7 @@ ghost use mathlib.Core.Path.{_≡_};
 ghost use mathlib.Core.List.{[], _∷_};
 ghost use Rattle.std.specs.Options.{Cases as BySome};
 ghost use Rattle.words.specs.Laws.{Parted};
-ghost use Rattle.words.specs.Words.{line-text, blank, Run, words, left, is-nil};
+ghost use Rattle.words.specs.Words.{line-text, blank, Run, words-in, left, is-nil};
 
 /// A line without the byte 10 that ends it, and without a byte 13 before that.
 pub fn without_end(line: &[u8]) -> &[u8]
@@ -44,7 +44,7 @@ pub struct Words<'a> {
 impl<'a> Words<'a> {
     /// All words of a line.
     pub fn new(line: &'a [u8]) -> Words<'a>
-        ensures { λ r. ⌜ left r ≡ words (now (line .entry)) ⌝ }
+        ensures { λ r. ⌜ left r ≡ words-in (now (line .entry)) ⌝ }
     {
         Words { rest: line }
     }
