@@ -112,25 +112,26 @@ fn keep<S: Store>(
     (Some(answer), held)
 }
 
-/// A token that is handed back is held again if it is that of an open trial, and spent otherwise.
+/// A token that is handed back is held again if it is that of the open trial, and spent otherwise, which has no effect.
 fn put_back<S: Store>(
     session: &mut Session<'_, TrialLayer<S>>,
     held: Option<Token>,
     trial: u32,
 ) -> (Option<Answer>, Option<Token>) {
     let (token, held) = token_of(held, trial);
-    match token {
-        Some(token) => match session.put_back(token) {
-            Ok(()) => (Some(Answer::Restored), held),
-            Err((token, fault)) => match held {
-                None => (Some(Answer::TrialRefused(fault)), Some(token)),
-                Some(held) => {
-                    spend(session, Some(token));
-                    (Some(Answer::TrialRefused(fault)), Some(held))
-                }
-            },
-        },
-        None => (Some(Answer::TrialRefused(TrialFault::WrongToken)), held),
+    let Some(token) = token else {
+        return (Some(Answer::TrialRefused(TrialFault::WrongToken)), held);
+    };
+    match session.put_back(token) {
+        Ok(()) => (Some(Answer::Restored), held),
+        Err((token, TrialFault::Overrun)) => {
+            spend(session, held);
+            (Some(Answer::TrialRefused(TrialFault::Overrun)), Some(token))
+        }
+        Err((token, fault)) => {
+            spend(session, Some(token));
+            (Some(Answer::TrialRefused(fault)), held)
+        }
     }
 }
 
