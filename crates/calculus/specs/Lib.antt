@@ -3,5 +3,8 @@ pub mod Refusals
 pub mod Held
 pub mod Terms
 pub mod Rows
+pub mod Sizes
 pub mod Text
 pub mod Trees
+pub mod Layout
+pub mod Standing

@@ -17,12 +17,12 @@ many (method l b ms) = suc (many ms)
 abbrev pub row : ℕ → ℕ → ℤ → Row
 row k l n = record { kind = k; label = l; number = n }
 
--- the rows of a term, with 0 in each field that its kind leaves unused (a location, which no table can write, has none)
+-- the rows of a term, with 0 in each field that its kind leaves unused (a location, which no table can name, is written as the figure 0)
 abbrev mutual
   pub rows-of : Term → List Row
   rows-of (var i) = row 1 0 (pos i) ∷ []
   rows-of (val (Figure k)) = row 2 0 k ∷ []
-  rows-of (val (Location n)) = []
+  rows-of (val (Location n)) = row 2 0 (pos 0) ∷ []
   rows-of (object ms) = row 3 0 (pos (many ms)) ∷ method-rows ms
   rows-of (select a l) = row 4 l (pos 0) ∷ rows-of a
   rows-of (update a l b) = row 5 l (pos 0) ∷ (rows-of a ++ rows-of b)

@@ -1,0 +1,80 @@
+-- Rows with their unused fields left out, and the number of rows in front of a head.
+use mathlib.Core.Path.{_≡_, refl, ap, sym, _∙_}
+use mathlib.Core.List.{List, [], _∷_, _++_, append-assoc, map}
+use mathlib.Core.Bool.{Bool, true, false, cond}
+use Prim.Native.Nat.{ℕ, zero, suc, _+_, _-_, _≤_, _<_}
+use native.Mathlib.Omega.{arith}
+use lib.Dec.{leb, eqb}
+use lib.IntN.{ℤ, pos}
+use lib.ListN.{length, set, drop, getD, length-append, length-drop, length-set}
+use Rattle.std.proofs.shelf.Lists.{drop-more, drop-all, at-drop-more, at-drop-all}
+use Rattle.std.proofs.shelf.Ways.{tells}
+use Rattle.calculus.specs.declared.rows.Row.{Row}
+use Rattle.calculus.specs.declared.values.Value.the-variants.{Figure, Location}
+use Rattle.calculus.specs.Terms.{Term, Methods, var, val, object, select, update, clone, bind, nil, method}
+use Rattle.calculus.specs.Rows.{many, rows-of, method-rows, plain}
+use Rattle.compiler.specs.Fronts.{followers, front}
+
+abbrev pub blank : Row
+blank = record { kind = 0; label = 0; number = pos 0 }
+
+abbrev pub row-at : List Row → ℕ → Row
+row-at rows p = getD rows p blank
+
+pub front-step : (rows : List Row) (i : ℕ) → i < length rows → front (drop i rows) ≡ cond (leb 4 (row-at rows i .kind)) (suc (front (drop (i + 1) rows))) 0
+front-step rows i h = at-drop-more front rows i blank h
+
+pub front-end : (rows : List Row) (i : ℕ) → length rows ≤ i → front (drop i rows) ≡ 0
+front-end rows i h = at-drop-all front rows i h
+
+pub plain-long : (rows : List Row) → length (map plain rows) ≡ length rows
+plain-long [] = refl
+plain-long (r ∷ rs) = ap suc (plain-long rs)
+
+pub drop-plain : (rows : List Row) (at : ℕ) → drop at (map plain rows) ≡ map plain (drop at rows)
+drop-plain [] zero = refl
+drop-plain [] (suc n) = refl
+drop-plain (r ∷ rs) zero = refl
+drop-plain (r ∷ rs) (suc n) = drop-plain rs n
+
+pub at-plain : (rows : List Row) (at : ℕ) → row-at (map plain rows) at ≡ plain (row-at rows at)
+at-plain [] zero = refl
+at-plain [] (suc n) = refl
+at-plain (r ∷ rs) zero = refl
+at-plain (r ∷ rs) (suc n) = at-plain rs n
+
+front-plain : (rows : List Row) → front (map plain rows) ≡ front rows
+front-plain [] = refl
+front-plain (r ∷ rs) = ap (λ (x : ℕ). cond (leb 4 (r .kind)) (suc x) 0) (front-plain rs)
+
+pub front-same : (rows : List Row) (at : ℕ) → front (drop at rows) ≡ front (drop at (map plain rows))
+front-same rows at = sym (front-plain (drop at rows)) ∙ ap front (sym (drop-plain rows at))
+
+pub some-rows : (t : Term) → 1 ≤ length (rows-of t)
+some-rows (var i) = omega arith
+some-rows (val (Figure k)) = omega arith
+some-rows (val (Location n)) = omega arith
+some-rows (object ms) = omega arith
+some-rows (select a l) = omega arith
+some-rows (update a l b) = omega arith
+some-rows (clone a) = omega arith
+some-rows (bind a b) = omega arith
+
+pub at-lt : (rows : List Row) (at : ℕ) (t : Term) (rest : List Row) → drop at rows ≡ rows-of t ++ rest → at < length rows
+at-lt rows at t rest e = omega (arith, ap length e, length-drop at rows, length-append (rows-of t) rest, some-rows t)
+
+pub cons-lt : (rows : List Row) (at : ℕ) (x : Row) (xs : List Row) → drop at rows ≡ x ∷ xs → at < length rows
+cons-lt rows at x xs e = omega (arith, ap length e, length-drop at rows)
+
+pub uncons : (rows : List Row) (at : ℕ) (x : Row) (xs : List Row) → drop at rows ≡ x ∷ xs → (row-at rows at ≡ x) × (drop (at + 1) rows ≡ xs)
+uncons rows at x xs e = let h = cons-lt rows at x xs e in let d = drop-more rows at blank h in (cc, cc)
+
+pub front-is : (t : Term) (rest : List Row) → front (rows-of t ++ rest) ≡ followers t
+front-is (var i) rest = refl
+front-is (val (Figure k)) rest = refl
+front-is (val (Location n)) rest = refl
+front-is (object ms) rest = refl
+front-is (select a l) rest = ap suc (front-is a rest) ∙ omega arith
+front-is (update a l b) rest = ap suc (ap front (append-assoc (rows-of a) (rows-of b) rest) ∙ front-is a (rows-of b ++ rest)) ∙ omega arith
+front-is (clone a) rest = ap suc (front-is a rest) ∙ omega arith
+front-is (bind a b) rest = ap suc (ap front (append-assoc (rows-of a) (rows-of b) rest) ∙ front-is a (rows-of b ++ rest)) ∙ omega arith

@@ -1,0 +1,4 @@
+pub mod Fronts
+pub mod Area
+pub mod Emit
+pub mod Compile

@@ -1,0 +1,2 @@
+//! Rows become operation lists.
+mod emission;
