@@ -1,0 +1,9 @@
+pub mod Objects
+pub mod Sequences
+pub mod Instances
+pub mod Decomposing
+pub mod Faults
+pub mod WellFormed
+pub mod Framing
+pub mod Translating
+pub mod Simulation

@@ -1,0 +1,1 @@
+//! The calculus, the abstract machine, and the laws by which they agree.
