@@ -1,2 +1,4 @@
 pub mod Fetching
 pub mod Silent
+pub mod Growing
+pub mod Functional

@@ -1,2 +1,3 @@
 pub mod Standing
 pub mod Settling
+pub mod Once
