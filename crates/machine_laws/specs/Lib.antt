@@ -1,3 +1,4 @@
 pub mod Standing
 pub mod Settling
 pub mod Once
+pub mod Reducing

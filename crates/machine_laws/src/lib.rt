@@ -1,6 +1,7 @@
 //! The laws of the table machine: what it holds stands for the machine on trees, and what it does is what that machine does.
 ghost use Rattle.machine_laws.specs.Settling.{Settles};
 ghost use Rattle.machine_laws.specs.Once.{StandsOnce};
+ghost use Rattle.machine_laws.specs.Reducing.{Judges};
 
 /// Over tables that stand for trees, the silent transitions are those of the machine on trees, and as many as are reported.
 pub fn settles() -> u8
@@ -12,6 +13,14 @@ pub fn settles() -> u8
 /// What a machine or a store stands for is one thing.
 pub fn stands_once() -> u8
     ensures { λ _. ⌜ StandsOnce ⌝ }
+{
+    0
+}
+
+/// Each reduction is the transition of its kind of the machine on trees, over the store that the meaning stands for; it is refused
+/// by the limits alone, and by 19 only where the term is not closed or not within its store.
+pub fn judges() -> u8
+    ensures { λ _. ⌜ Judges ⌝ }
 {
     0
 }
