@@ -55,7 +55,7 @@ framed-reduces (enters {k} {a} {a′} {Rs} {σ} {σ′} R h rule) = rule-under k
 pub closes-keeps : {F F′ : Framed} → Closes F F′ → whole F ≡ whole F′
 closes-keeps closes = refl
 
-closes-all-keep : {F F′ : Framed} → ClosesAll F F′ → whole F ≡ whole F′
+pub closes-all-keep : {F F′ : Framed} → ClosesAll F F′ → whole F ≡ whole F′
 closes-all-keep none-due = refl
 closes-all-keep (one-closes p ps) = closes-keeps p ∙ closes-all-keep ps
 

@@ -7,3 +7,5 @@ pub mod Machine
 pub mod Unloading
 pub mod Counts
 pub mod Lists
+pub mod Agreement
+pub mod Laws

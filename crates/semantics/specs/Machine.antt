@@ -93,17 +93,18 @@ pub record Blocked (S : State) (s : MStore) : Type 0 where
   pub unfinished : (v : Value) → Finished S v → ⊥
   pub no-transition : (x : Label) (S′ : State) (s′ : MStore) → Transition x S s S′ s′ → ⊥
 
--- The machine as a function: what it does next.
-pub data Next : Type 0 where
-  halts : Next
-  blocks : Next
-  goes : Label → State → MStore → Next
+-- what a machine does next, whatever its states and stores are
+pub data Next (A B : Type 0) : Type 0 where
+  halts : Next A B
+  blocks : Next A B
+  goes : Label → A → B → Next A B
 
 -- a body with a value for its variable 1
 abbrev pub entered : Closure Code → Value → List Frame → State
 entered (closure c e) v rs = empty c (v ∷ e) rs
 
-abbrev pub step : State → MStore → Next
+-- the machine as a function
+abbrev pub step : State → MStore → Next State MStore
 step (empty (accessOp j r) e rs) s = if-some (variable e j) (λ v. goes (τ loading) (full r e v rs) s) blocks
 step (empty (figureOp k r) e rs) s = goes (τ loading) (full r e (Figure k) rs) s
 step (empty (objectOp bs r) e rs) s = goes (β making) (full r e (Location (length s)) rs) (s ++ (close e bs ∷ []))
