@@ -96,7 +96,6 @@ list-step (state (op (UPDATE l q) p) e a rs) s = on-location a (λ n. if-some (m
 list-step (state (op CLONE p) e a rs) s = on-location a (λ n. if-some (nth s n) (λ o. goes (β cloning) (state p e (Some (Location (length s))) rs) (s ++ (o ∷ []))) blocks)
 list-step (state (op (LET q) p) e a rs) s = on-full a (λ v. goes (β letting) (state q (v ∷ e) None (closure p e ∷ rs)) s)
 
-
 list-transition-steps : {x : Label} {S : ListState} {s : ListStore} {S′ : ListState} {s′ : ListStore} → ListTransition x S s S′ s′ → list-step S s ≡ goes x S′ s′
 list-transition-steps τ-RETURN = refl
 list-transition-steps (τ-ACCESS h) = rw h

@@ -12,3 +12,4 @@ pub mod Settling
 pub mod Runs
 pub mod Counting
 pub mod Flattening
+pub mod Programs

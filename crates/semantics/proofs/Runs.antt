@@ -3,21 +3,18 @@ use mathlib.Core.Path.{_≡_, refl, ap, ap₂, sym, _∙_, subst, subst₂, subs
 use mathlib.Core.Logic.{_↔_}
 use mathlib.Core.List.{List, [], _∷_, _++_, append-nil}
 use Rattle.calculus.specs.declared.values.Value.{Value}
-use Rattle.calculus.specs.Terms.{Term, val, inst, Static}
+use Rattle.calculus.specs.Terms.{Term, val}
 use Rattle.calculus.specs.Trees.{done}
 use Rattle.semantics.specs.Objects.{Store}
 use Rattle.semantics.specs.Sequences.{Sequence, ends, also}
-use Rattle.semantics.specs.Reduction.{Kind, Reduces, Reductions, Stuck, Faulty, WellFormed}
-use Rattle.semantics.specs.Machine.{Env, State, full, MStore, Label, τ, β, Transition, Run, initial, Settled, Blocked}
+use Rattle.semantics.specs.Reduction.{Kind, Reduces, Reductions, Stuck}
+use Rattle.semantics.specs.Machine.{Env, State, full, MStore, Label, τ, β, Transition, Run, Settled}
 use Rattle.semantics.specs.Unloading.{unload, unloadStore}
 use Rattle.semantics.specs.Counts.{betas}
 use Rattle.semantics.specs.Agreement.{Settles, Reaches, Finishes, Blocks}
 use Rattle.semantics.proofs.Sequences.{sequence-++}
-use Rattle.semantics.proofs.Faults.{stuck-is-faulty}
-use Rattle.semantics.proofs.WellFormed.{reductions-keep}
 use Rattle.semantics.proofs.Decomposing.{deterministic}
 use Rattle.semantics.proofs.Framing.{closes-all-keep}
-use Rattle.semantics.proofs.Translating.{unload-trans}
 use Rattle.semantics.proofs.Simulation.{silent-keeps, beta-reduces}
 use Rattle.semantics.proofs.Settling.{settle, settled-finished, settled-reduces, settled-stuck, blocked-stuck}
 
@@ -80,8 +77,7 @@ reductions-reach (also {x = k} {a′ = t₁} {b′ = σ₁} r rs) S s p q =
 -- the run goes on until all due silent transitions are made
 settled-reach : (S : State) (s : MStore) (ks : List Kind) (t : Term) (σ : Store Term) → Reaches S s ks t σ → (z : Reaches S s ks t σ) × Settled (z .state) (z .store)
 settled-reach S s ks t σ m =
-    let z = settle (m .state) (m .store) in
-    (
+    let z = settle (m .state) (m .store) in (
       record {
         labels = m .labels ++ z .labels;
         state = z .state;

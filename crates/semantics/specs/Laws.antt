@@ -80,7 +80,7 @@ abbrev pub StackIsFrames : Type 0
 StackIsFrames =
     ((S : State) → length (waiting (reference S)) ≡ length (stack S)) ×
     ((xs : List Label) (S : State) (s : MStore) (S′ : State) (s′ : MStore) → Run xs S s S′ s′ →
-      Sequence Mirrors xs (reference S) (unloadStore s) (reference S′) (unloadStore s′))
+    Sequence Mirrors xs (reference S) (unloadStore s) (reference S′) (unloadStore s′))
 
 -- Counting.
 
@@ -90,8 +90,8 @@ TransitionsAreCounted =
     let ks = betas xs in
     length xs ≡ 1 + 3 * (count selecting ks + count letting ks) + count updating ks + count cloning ks
 
-abbrev pub TransitionsAreCountedOnTheWay : Type 0
-TransitionsAreCountedOnTheWay = (xs : List Label) (S : State) (s : MStore) (S′ : State) (s′ : MStore) → Run xs S s S′ s′ → length xs + owed S′ ≡ owed S + cost (betas xs)
+abbrev pub TransitionsAreOwed : Type 0
+TransitionsAreOwed = (xs : List Label) (S : State) (s : MStore) (S′ : State) (s′ : MStore) → Run xs S s S′ s′ → length xs + owed S′ ≡ owed S + cost (betas xs)
 
 -- The machine on plain lists.
 
@@ -135,5 +135,7 @@ BlockedRunsAreFaulty =
 
 abbrev pub ListRunsAgree : Type 0
 ListRunsAgree =
-    (t : Term) (vs : Env) (s : MStore) → Static t → (ks : List Kind) (v : Value) (σ : Store Term) →
-    ListFinishes (state (compile t) vs None []) (flatStore s) ks v σ ↔ Reductions ks (inst 0 vs t) (unloadStore s) (val v) σ
+    (t : Term) (vs : Env) (s : MStore) → Static t →
+    ((ks : List Kind) (v : Value) (σ : Store Term) → Reductions ks (inst 0 vs t) (unloadStore s) (val v) σ → ListFinishes (state (compile t) vs None []) (flatStore s) ks v σ) ×
+    ((xs : List Label) (e : Env) (v : Value) (l : ListStore) → ListRun xs (state (compile t) vs None []) (flatStore s) (state end e (Some v) []) l →
+    (u : MStore) × (flatStore u ≡ l) × Reductions (betas xs) (inst 0 vs t) (unloadStore s) (val v) (unloadStore u))

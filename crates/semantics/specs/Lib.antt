@@ -9,3 +9,4 @@ pub mod Counts
 pub mod Lists
 pub mod Agreement
 pub mod Laws
+pub mod Examples
