@@ -1,5 +1,5 @@
 -- The machine on plain lists runs as the machine on trees.
-use mathlib.Core.Path.{_≡_, refl, ap, ap₂, sym, _∙_, subst, subst₂, subst₃}
+use mathlib.Core.Path.{_≡_, refl, ap, ap₂, sym, _∙_, subst, subst₂}
 use mathlib.Core.Logic.{_↔_}
 use mathlib.Core.List.{List, [], _∷_, _++_, map}
 use Prim.Native.Nat.{ℕ}
@@ -12,13 +12,14 @@ use Rattle.calculus.specs.declared.values.Value.the-variants.{Figure, Location}
 use Rattle.calculus.specs.Places.{nth, if-some}
 use Rattle.calculus.specs.Terms.{Term, var, val, object, select, update, clone, bind, Methods, nil, method}
 use Rattle.calculus.specs.Trees.{Code, accessOp, figureOp, objectOp, Rest, done, selectOp, updateOp, cloneOp, letOp, Bodies, noBody, body, trans, transAll}
-use Rattle.semantics.specs.Objects.{labelled, Object, Store, method-at, with-method, relabel, mapStore}
+use Rattle.semantics.specs.Objects.{labelled, Object, method-at, with-method, relabel}
 use Rattle.semantics.specs.Sequences.{ends, also}
 use Rattle.semantics.specs.Reduction.{making, selecting, updating, cloning, letting}
-use Rattle.semantics.specs.Machine.{Env, variable, Closure, closure, close, MStore, Frame, State, empty, full, returning, loading, Label, τ, β, Next, halts, blocks, goes, entered, step, Run, Blocked}
+use Rattle.semantics.specs.Machine.{Env, variable, Closure, closure, close, TreeStore, Frame, State, empty, full, returning, loading, Label, τ, β, Next, halts, blocks, goes, entered, step, Blocked}
 use Rattle.semantics.specs.Machine.{Transition, τ-return, τ-access, τ-figure, β-object, β-select, β-update, β-clone, β-let}
-use Rattle.semantics.specs.Lists.{ACCESS, FIGURE, OBJECT, SELECT, UPDATE, CLONE, LET, Ops, end, op, LabelledOps, no-ops, ops, append, compile, compileAll, closeOps, ListStore, ListState, state}
+use Rattle.semantics.specs.Lists.{ACCESS, FIGURE, OBJECT, SELECT, UPDATE, CLONE, LET, Ops, end, op, ops, append, compile, compileAll, closeOps, ListStore, ListState, state}
 use Rattle.semantics.specs.Lists.{ListTransition, τ-RETURN, τ-ACCESS, τ-FIGURE, β-OBJECT, β-SELECT, β-UPDATE, β-CLONE, β-LET, ListRun, flatCode, flatRest, flatBodies, flatBody, flatFrame, flatStore, flatState, TreeRun, ListBlocked}
+use Rattle.semantics.specs.Laws.{ListsAreDeterministic, ListsRunAsTrees}
 use Rattle.semantics.proofs.Objects.{map-some, map-nth, method-maps, method-some, object-some, with-maps, push-maps}
 use Rattle.semantics.proofs.Sequences.{mirror}
 use Rattle.semantics.proofs.Statuses.{step-computes}
@@ -106,8 +107,7 @@ list-transition-steps (β-UPDATE h) = rw h
 list-transition-steps (β-CLONE h) = rw h
 list-transition-steps β-LET = refl
 
-pub lists-deterministic : (x y : Label) (S : ListState) (s : ListStore) (S′ : ListState) (s′ : ListStore) (S″ : ListState) (s″ : ListStore) →
-    ListTransition x S s S′ s′ → ListTransition y S s S″ s″ → (x ≡ y) × (S′ ≡ S″) × (s′ ≡ s″)
+pub lists-deterministic : ListsAreDeterministic
 lists-deterministic x y S s S′ s′ S″ s″ t u = same (list-transition-steps t) (list-transition-steps u)
   where
     same : list-step S s ≡ goes x S′ s′ → list-step S s ≡ goes y S″ s″ → (x ≡ y) × (S′ ≡ S″) × (s′ ≡ s″)
@@ -116,13 +116,13 @@ lists-deterministic x y S s S′ s′ S″ s″ t u = same (list-transition-step
 -- From trees to lists.
 
 -- an object more, at the location that is the number of objects
-flat-pushed : (x : Label) (S : ListState) (s : MStore) (o : Object (Closure Code)) (p : Ops) (e : Env) (rs : List (Closure Ops)) →
+flat-pushed : (x : Label) (S : ListState) (s : TreeStore) (o : Object (Closure Code)) (p : Ops) (e : Env) (rs : List (Closure Ops)) →
     ListTransition x S (flatStore s) (state p e (Some (Location (length (flatStore s)))) rs) (flatStore s ++ (map (relabel flatBody) o ∷ [])) →
     ListTransition x S (flatStore s) (state p e (Some (Location (length s))) rs) (flatStore (s ++ (o ∷ [])))
 flat-pushed x S s o p e rs =
     subst₂ (λ m u. ListTransition x S (flatStore s) (state p e (Some (Location m)) rs) u) (length-map s (map (relabel flatBody))) (sym (push-maps flatBody s o))
 
-flat-transition : {x : Label} {S : State} {s : MStore} {S′ : State} {s′ : MStore} → Transition x S s S′ s′ →
+flat-transition : {x : Label} {S : State} {s : TreeStore} {S′ : State} {s′ : TreeStore} → Transition x S s S′ s′ →
     ListTransition x (flatState S) (flatStore s) (flatState S′) (flatStore s′)
 flat-transition τ-return = τ-RETURN
 flat-transition (τ-access h) = τ-ACCESS h
@@ -139,16 +139,16 @@ flat-transition β-let = β-LET
 
 -- From lists to trees.
 
-abbrev flatNext : Next State MStore → ListNext
+abbrev flatNext : Next State TreeStore → ListNext
 flatNext halts = halts
 flatNext blocks = blocks
 flatNext (goes x S s) = goes x (flatState S) (flatStore s)
 
-if-flat : {X : Type 0} (o : Option X) (f : X → ListNext) (g : X → Next State MStore) → ((x : X) → f x ≡ flatNext (g x)) → if-some o f blocks ≡ flatNext (if-some o g blocks)
+if-flat : {X : Type 0} (o : Option X) (f : X → ListNext) (g : X → Next State TreeStore) → ((x : X) → f x ≡ flatNext (g x)) → if-some o f blocks ≡ flatNext (if-some o g blocks)
 if-flat (Some x) f g h = h x
 if-flat None f g h = refl
 
-if-mapped : {X Y : Type 0} (m : X → Y) (o : Option X) (f : Y → ListNext) (g : X → Next State MStore) → ((x : X) → f (m x) ≡ flatNext (g x)) →
+if-mapped : {X Y : Type 0} (m : X → Y) (o : Option X) (f : Y → ListNext) (g : X → Next State TreeStore) → ((x : X) → f (m x) ≡ flatNext (g x)) →
     if-some (map-some m o) f blocks ≡ flatNext (if-some o g blocks)
 if-mapped m (Some x) f g h = h x
 if-mapped m None f g h = refl
@@ -156,7 +156,7 @@ if-mapped m None f g h = refl
 flat-entered : (f : Closure Code) (v : Value) (rs : List Frame) → list-entered (flatBody f) v (map flatFrame rs) ≡ flatState (entered f v rs)
 flat-entered (closure c e) v rs = refl
 
-flat-step : (S : State) (s : MStore) → list-step (flatState S) (flatStore s) ≡ flatNext (step S s)
+flat-step : (S : State) (s : TreeStore) → list-step (flatState S) (flatStore s) ≡ flatNext (step S s)
 flat-step (empty (accessOp j r) e rs) s = if-flat (variable e j) _ _ (λ v. refl)
 flat-step (empty (figureOp k r) e rs) s = refl
 flat-step (empty (objectOp bs r) e rs) s = list-transition-steps (flat-transition (β-object {bs = bs} {r = r} {e = e} {rs = rs} {s = s}))
@@ -175,31 +175,31 @@ flat-step (full (cloneOp r) e (Location n) rs) s =
 flat-step (full (letOp c r) e v rs) s = refl
 
 -- a transition of a flattened state is one of the tree's
-record TreeMove (x : Label) (S : State) (s : MStore) (S′ : ListState) (s′ : ListStore) : Type 0 where
+record TreeMove (x : Label) (S : State) (s : TreeStore) (S′ : ListState) (s′ : ListStore) : Type 0 where
   next-state : State
-  next-store : MStore
+  next-store : TreeStore
   move : Transition x S s next-state next-store
   states : flatState next-state ≡ S′
   stores : flatStore next-store ≡ s′
 
-unflat-step : (x : Label) (S : State) (s : MStore) (S′ : ListState) (s′ : ListStore) (n : Next State MStore) → step S s ≡ n → flatNext n ≡ goes x S′ s′ → TreeMove x S s S′ s′
+unflat-step : (x : Label) (S : State) (s : TreeStore) (S′ : ListState) (s′ : ListStore) (n : Next State TreeStore) → step S s ≡ n → flatNext n ≡ goes x S′ s′ → TreeMove x S s S′ s′
 unflat-step x S s S′ s′ halts p q = let z : _≡_ {A = ℕ} 0 1 = cc in absurd (omega arith)
 unflat-step x S s S′ s′ blocks p q = let z : _≡_ {A = ℕ} 0 1 = cc in absurd (omega arith)
 unflat-step x S s S′ s′ (goes y T u) p q =
     let e : y ≡ x = cc in
     record { next-state = T; next-store = u; move = subst (λ z. Transition z S s T u) e (step-computes y S s T u .1 p); states = cc; stores = cc }
 
-unflat-transition : (x : Label) (S : State) (s : MStore) (S′ : ListState) (s′ : ListStore) → ListTransition x (flatState S) (flatStore s) S′ s′ → TreeMove x S s S′ s′
+unflat-transition : (x : Label) (S : State) (s : TreeStore) (S′ : ListState) (s′ : ListStore) → ListTransition x (flatState S) (flatStore s) S′ s′ → TreeMove x S s S′ s′
 unflat-transition x S s S′ s′ t = unflat-step x S s S′ s′ (step S s) refl (sym (flat-step S s) ∙ list-transition-steps t)
 
-unflat-run : {xs : List Label} {L : ListState} {l : ListStore} {S′ : ListState} {s′ : ListStore} → ListRun xs L l S′ s′ → (S : State) (s : MStore) → flatState S ≡ L → flatStore s ≡ l → TreeRun xs S s S′ s′
+unflat-run : {xs : List Label} {L : ListState} {l : ListStore} {S′ : ListState} {s′ : ListStore} → ListRun xs L l S′ s′ → (S : State) (s : TreeStore) → flatState S ≡ L → flatStore s ≡ l → TreeRun xs S s S′ s′
 unflat-run ends S s p q = record { end-state = S; end-store = s; run = ends; states = p; stores = q }
 unflat-run (also {x = x} {a′ = L′} {b′ = l′} t ts) S s p q =
     let m = unflat-transition x S s L′ l′ (subst₂ (λ L l. ListTransition x L l L′ l′) (sym p) (sym q) t) in
     let z = unflat-run ts (m .next-state) (m .next-store) (m .states) (m .stores) in
     record { end-state = z .end-state; end-store = z .end-store; run = also (m .move) (z .run); states = z .states; stores = z .stores }
 
-pub lists-run-as-trees : (xs : List Label) (S : State) (s : MStore) (S′ : ListState) (s′ : ListStore) → ListRun xs (flatState S) (flatStore s) S′ s′ ↔ TreeRun xs S s S′ s′
+pub lists-run-as-trees : ListsRunAsTrees
 lists-run-as-trees xs S s S′ s′ =
     (λ r. unflat-run r S s refl refl, λ z. subst₂ (λ L l. ListRun xs (flatState S) (flatStore s) L l) (z .states) (z .stores) (mirror Transition ListTransition flatState flatStore (λ x T u T′ u′ t. flat-transition t) (z .run)))
 
@@ -226,7 +226,7 @@ lists-finish-as-trees S e v = (forth S, ap flatState)
         let u : map flatFrame rs ≡ [] = cc in
         cc (flat-done r q, flat-none rs u)
 
-pub lists-block-as-trees : (S : State) (s : MStore) → ListBlocked (flatState S) (flatStore s) ↔ Blocked S s
+pub lists-block-as-trees : (S : State) (s : TreeStore) → ListBlocked (flatState S) (flatStore s) ↔ Blocked S s
 lists-block-as-trees S s = (
   λ b. record {
     unfinished = λ v f. b .unfinished (f .0) v (ap flatState (f .1));

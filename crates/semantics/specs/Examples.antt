@@ -6,12 +6,12 @@ use lib.IntN.{pos}
 use lib.ListN.{length}
 use Rattle.calculus.specs.declared.values.Value.{Value}
 use Rattle.calculus.specs.declared.values.Value.the-variants.{Figure, Location}
-use Rattle.calculus.specs.Terms.{Term, var, val, object, select, update, clone, bind, nil, method, inst}
+use Rattle.calculus.specs.Terms.{Term, var, val, object, select, update, clone, bind, nil, method}
 use Rattle.calculus.specs.Trees.{accessOp, done}
 use Rattle.semantics.specs.Objects.{labelled, Store}
 use Rattle.semantics.specs.Reduction.{Kind, making, selecting, updating, cloning, letting, plug, FigureTaken, LabelMissing}
-use Rattle.semantics.specs.Redexes.{Decomposition, value, at, decompose, Contraction, idle, to, contract}
-use Rattle.semantics.specs.Machine.{Env, closure, State, MStore, Label, β, initial, Next, halts, blocks, goes, step}
+use Rattle.semantics.specs.Redexes.{value, at, decompose, idle, to, contract}
+use Rattle.semantics.specs.Machine.{Env, closure, State, TreeStore, Label, β, initial, Next, halts, blocks, goes, step}
 use Rattle.semantics.specs.Unloading.{stack, unload, unloadStore}
 use Rattle.semantics.specs.Lists.{ACCESS, OBJECT, LET, end, op, no-ops, compile}
 use Rattle.semantics.specs.Counts.{betas}
@@ -35,12 +35,12 @@ reduce (suc n) t σ =
 -- At most n transitions of the machine: those made, and the state and store they lead to.
 
 pub data Went : Type 0 where
-  went : List Label → State → MStore → Went
+  went : List Label → State → TreeStore → Went
 
 abbrev pub and-before : Label → Went → Went
 and-before x (went xs S s) = went (x ∷ xs) S s
 
-abbrev pub run-on : ℕ → State → MStore → Went
+abbrev pub run-on : ℕ → State → TreeStore → Went
 run-on zero S s = went [] S s
 run-on (suc n) S s = elim (step S s) [ halts ↦ went [] S s | blocks ↦ went [] S s | goes x S′ s′ ↦ and-before x (run-on n S′ s′) ]
 
@@ -49,7 +49,7 @@ pub data Ahead : Type 0 where
   finished stuck : Ahead
   next : Label → Ahead
 
-abbrev pub ahead : Next State MStore → Ahead
+abbrev pub ahead : Next State TreeStore → Ahead
 ahead halts = finished
 ahead blocks = stuck
 ahead (goes x S s) = next x
@@ -61,7 +61,7 @@ pub data Outcome : Type 0 where
 abbrev pub sum-up : Went → Outcome
 sum-up (went xs S s) = outcome (length xs) (reduced (betas xs) (unload S) (unloadStore s)) (length (stack S)) (ahead (step S s))
 
-abbrev pub store-of : Went → MStore
+abbrev pub store-of : Went → TreeStore
 store-of (went xs S s) = s
 
 abbrev pub on-machine : ℕ → Term → Env → Outcome

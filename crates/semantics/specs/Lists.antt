@@ -14,7 +14,7 @@ use Rattle.calculus.specs.Trees.{Code, accessOp, figureOp, objectOp, Rest, done
 use Rattle.semantics.specs.Objects.{labelled, Object, Store, method-at, with-method, mapStore}
 use Rattle.semantics.specs.Sequences.{Sequence}
 use Rattle.semantics.specs.Reduction.{making, selecting, updating, cloning, letting}
-use Rattle.semantics.specs.Machine.{Env, variable, Closure, closure, MStore, Frame, State, empty, full, returning, loading, Label, τ, β, Run}
+use Rattle.semantics.specs.Machine.{Env, variable, Closure, closure, TreeStore, Frame, State, empty, full, returning, loading, Label, τ, β, Run}
 
 mutual
   pub data Op : Type 0 where
@@ -112,7 +112,7 @@ flatBody (closure c e) = closure (flatCode c) e
 abbrev pub flatFrame : Frame → Closure Ops
 flatFrame (closure r e) = closure (flatRest r) e
 
-abbrev pub flatStore : MStore → ListStore
+abbrev pub flatStore : TreeStore → ListStore
 flatStore s = mapStore flatBody s
 
 abbrev pub flatState : State → ListState
@@ -120,9 +120,9 @@ flatState (empty c e rs) = state (flatCode c) e None (map flatFrame rs)
 flatState (full r e v rs) = state (flatRest r) e (Some v) (map flatFrame rs)
 
 -- a run on trees whose end, flattened, is this
-pub record TreeRun (xs : List Label) (S : State) (s : MStore) (S′ : ListState) (s′ : ListStore) : Type 0 where
+pub record TreeRun (xs : List Label) (S : State) (s : TreeStore) (S′ : ListState) (s′ : ListStore) : Type 0 where
   pub end-state : State
-  pub end-store : MStore
+  pub end-store : TreeStore
   pub run : Run xs S s end-state end-store
   pub states : flatState end-state ≡ S′
   pub stores : flatStore end-store ≡ s′

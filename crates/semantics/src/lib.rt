@@ -1,6 +1,6 @@
 //! The calculus, the reference with frames, the abstract machine on trees and on plain lists, and the laws by which they agree.
 //! Each function below names one law by its contract; docs/SEMANTICS.md explains them.
-ghost use Rattle.semantics.specs.Laws.{ReductionIsDeterministic, StuckIsFaulty, ReductionKeepsWellFormed, ProgramsStartWellFormed, FramesReduceAlike, FramesKeepWellFormed, TranslationUnloads, StepIsTransition, MachineIsDeterministic, SilentKeepsUnloading, BetaIsReduction, SettledAgrees, MachineSettles, StackIsFrames, TransitionsAreCounted, TransitionsAreOwed, ListsAreFlatTrees, ListsAreDeterministic, ListsRunAsTrees, ListsEndAsTrees, RunsAgree, FinishedRunsAgree, BlockedRunsAgree, BlockedRunsAreFaulty, ListRunsAgree};
+ghost use Rattle.semantics.specs.Laws.{ReductionIsDeterministic, ReductionIsFound, StuckIsFaulty, ReductionKeepsWellFormed, ProgramsStartWellFormed, FramesReduceAlike, FramesKeepWellFormed, TranslationUnloads, StepIsTransition, MachineIsDeterministic, SilentKeepsUnloading, BetaIsReduction, SettledAgrees, MachineSettles, StackIsFrames, TransitionsAreCounted, TransitionsAreOwed, ListsAreFlatTrees, ListsAreDeterministic, ListsRunAsTrees, ListsEndAsTrees, RunsAgree, FinishedRunsAgree, BlockedRunsAgree, BlockedRunsAreFaulty, ListRunsAgree};
 ghost use Rattle.semantics.specs.Examples.{MarkedExamples};
 
 // The calculus.
@@ -8,6 +8,13 @@ ghost use Rattle.semantics.specs.Examples.{MarkedExamples};
 /// A configuration has at most one reduction: its kind, and the term and the store after it.
 pub fn reduction_is_deterministic() -> u8
     ensures { λ _. ⌜ ReductionIsDeterministic ⌝ }
+{
+    0
+}
+
+/// A reduction is what decomposing the term and contracting its redex finds, and the other way round.
+pub fn reduction_is_found() -> u8
+    ensures { λ _. ⌜ ReductionIsFound ⌝ }
 {
     0
 }

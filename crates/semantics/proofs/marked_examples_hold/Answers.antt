@@ -1,5 +1,4 @@
 use mathlib.Core.Path.{refl}
-use Rattle.calculus.specs.declared.values.Value.the-variants.{Figure, Location}
 use Rattle.semantics.specs.Reduction.{hole, select-figure, select-missing}
 use Rattle.semantics.proofs.marked_examples_hold.Needs as need
 
