@@ -17,7 +17,7 @@ use Rattle.semantics.specs.Agreement.{Settles}
 use Rattle.semantics.specs.Laws.{SettledAgrees}
 use Rattle.semantics.proofs.Decomposing.{deterministic}
 use Rattle.semantics.proofs.Framing.{value-rests}
-use Rattle.semantics.proofs.Simulation.{transition-mirrors, beta-reduces}
+use Rattle.semantics.proofs.Simulation.{silent-mirrors, beta-reduces}
 use Rattle.semantics.proofs.Statuses.{Rested, at-end, at-fault, at-reduction, rested-settled, settled-rested, Due, silent, rested, due}
 
 -- a silent transition pays one of what is owed, and leaves the store
@@ -44,7 +44,7 @@ settle-due S s (silent q S′ s′ t) again =
       state = z .state;
       run = also (subst (λ u. Transition (τ q) S s S′ u) (silent-store t) t) (z .run);
       quiet = z .quiet;
-      closing = mirror-closes q _ _ _ _ _ (transition-mirrors t) (z .closing);
+      closing = mirror-closes q _ _ _ _ _ (silent-mirrors t) (z .closing);
       settled = z .settled;
     }
 

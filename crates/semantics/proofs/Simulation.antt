@@ -91,26 +91,34 @@ enters-rest : (k : Kind) (a : Term) (σ : Store Term) (a′ : Term) (e : Env) (r
 enters-rest k a σ a′ e r Rs h rule =
     subst (λ x. FramedReduces k (framed x Rs) σ (framed a′ (contextOf e r hole ∷ Rs)) σ) (plug-context e r hole a) (enters (contextOf e r hole) h rule)
 
-pub transition-mirrors : {x : Label} {S : State} {s : TreeStore} {S′ : State} {s′ : TreeStore} → Transition x S s S′ s′ →
-    Mirrors x (reference S) (unloadStore s) (reference S′) (unloadStore s′)
-transition-mirrors (τ-return {r} {e} {e′} {v} {rs}) =
+pub silent-mirrors : {q : Silent} {S : State} {s : TreeStore} {S′ : State} {s′ : TreeStore} → Transition (τ q) S s S′ s′ →
+    Mirrors (τ q) (reference S) (unloadStore s) (reference S′) (unloadStore s′)
+silent-mirrors (τ-return {r} {e} {e′} {v} {rs}) =
     (subst (λ x. Closes (framed (val v) (contextOf e′ r hole ∷ map unloadFrame rs)) (framed x (map unloadFrame rs))) (plug-context e′ r hole (val v)) closes, refl)
-transition-mirrors (τ-access {j} {r} {e} {v} {rs} h) = (ap (λ x. framed (unloadRest 0 e r x) (map unloadFrame rs)) (variable-some e j v h), refl)
-transition-mirrors τ-figure = (refl, refl)
-transition-mirrors (β-object {bs} {r} {e} {rs} {s}) = stays-rest making _ _ _ _ e r (map unloadFrame rs) refl (rule-object s e bs)
-transition-mirrors (β-select {l} {n} {r} {e} {e′} {c} {rs} {s} h) = enters-rest selecting _ _ _ e r (map unloadFrame rs) refl (rule-select s n l c e′ h)
-transition-mirrors (β-update {l} {n} {c} {r} {e} {rs} {s} {old} h) = stays-rest updating _ _ _ _ e r (map unloadFrame rs) refl (rule-update s n l old c e h)
-transition-mirrors (β-clone {n} {r} {e} {rs} {s} {o} h) = stays-rest cloning _ _ _ _ e r (map unloadFrame rs) refl (rule-clone s n o h)
-transition-mirrors (β-let {c} {r} {e} {v} {rs} {s}) = enters-rest letting _ _ _ e r (map unloadFrame rs) refl (rule-let s v c e)
+silent-mirrors (τ-access {j} {r} {e} {v} {rs} h) = (ap (λ x. framed (unloadRest 0 e r x) (map unloadFrame rs)) (variable-some e j v h), refl)
+silent-mirrors τ-figure = (refl, refl)
+
+pub beta-mirrors : {k : Kind} {S : State} {s : TreeStore} {S′ : State} {s′ : TreeStore} → Transition (β k) S s S′ s′ →
+    FramedReduces k (reference S) (unloadStore s) (reference S′) (unloadStore s′)
+beta-mirrors (β-object {bs} {r} {e} {rs} {s}) = stays-rest making _ _ _ _ e r (map unloadFrame rs) refl (rule-object s e bs)
+beta-mirrors (β-select {l} {n} {r} {e} {e′} {c} {rs} {s} h) = enters-rest selecting _ _ _ e r (map unloadFrame rs) refl (rule-select s n l c e′ h)
+beta-mirrors (β-update {l} {n} {c} {r} {e} {rs} {s} {old} h) = stays-rest updating _ _ _ _ e r (map unloadFrame rs) refl (rule-update s n l old c e h)
+beta-mirrors (β-clone {n} {r} {e} {rs} {s} {o} h) = stays-rest cloning _ _ _ _ e r (map unloadFrame rs) refl (rule-clone s n o h)
+beta-mirrors (β-let {c} {r} {e} {v} {rs} {s}) = enters-rest letting _ _ _ e r (map unloadFrame rs) refl (rule-let s v c e)
+
+pub transition-mirrors : (x : Label) (S : State) (s : TreeStore) (S′ : State) (s′ : TreeStore) → Transition x S s S′ s′ →
+    Mirrors x (reference S) (unloadStore s) (reference S′) (unloadStore s′)
+transition-mirrors (τ q) S s S′ s′ t = silent-mirrors t
+transition-mirrors (β k) S s S′ s′ t = beta-mirrors t
 
 -- and what it is for the whole term
-mirror-silent : (q : Silent) (F : Framed) (σ : Store Term) (F′ : Framed) (σ′ : Store Term) → Mirrors (τ q) F σ F′ σ′ → (whole F ≡ whole F′) × (σ ≡ σ′)
-mirror-silent returning F σ F′ σ′ m = (closes-keeps (m .0), m .1)
-mirror-silent loading F σ F′ σ′ m = (ap whole (m .0), m .1)
+whole-keeps : (q : Silent) (F : Framed) (σ : Store Term) (F′ : Framed) (σ′ : Store Term) → Mirrors (τ q) F σ F′ σ′ → (whole F ≡ whole F′) × (σ ≡ σ′)
+whole-keeps returning F σ F′ σ′ m = (closes-keeps (m .0), m .1)
+whole-keeps loading F σ F′ σ′ m = (ap whole (m .0), m .1)
 
 pub silent-keeps : {q : Silent} {S : State} {s : TreeStore} {S′ : State} {s′ : TreeStore} → Transition (τ q) S s S′ s′ → (unload S ≡ unload S′) × (unloadStore s ≡ unloadStore s′)
-silent-keeps {q} t = mirror-silent q _ _ _ _ (transition-mirrors t)
+silent-keeps {q} t = whole-keeps q _ _ _ _ (silent-mirrors t)
 
 pub beta-reduces : {k : Kind} {S : State} {s : TreeStore} {S′ : State} {s′ : TreeStore} → Transition (β k) S s S′ s′ →
     Reduces k (unload S) (unloadStore s) (unload S′) (unloadStore s′)
-beta-reduces t = framed-reduces (transition-mirrors t)
+beta-reduces t = framed-reduces (beta-mirrors t)

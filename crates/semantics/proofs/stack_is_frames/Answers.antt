@@ -6,4 +6,4 @@ use Rattle.semantics.proofs.Simulation.{transition-mirrors}
 use Rattle.semantics.proofs.stack_is_frames.Needs as need
 
 pub returns : need.returns
-returns c = (λ S. length-map (stack S) unloadFrame, λ xs S s S′ s′ r. mirror Transition Mirrors reference unloadStore (λ x T u T′ u′ t. transition-mirrors t) r)
+returns c = (λ S. length-map (stack S) unloadFrame, λ xs S s S′ s′ r. mirror Transition Mirrors reference unloadStore transition-mirrors r)
