@@ -1,22 +1,23 @@
 -- A term has one decomposition, and a rule is what its redex contracts to.
-use mathlib.Core.Path.{_≡_, refl, ap, _∙_}
-use mathlib.Core.List.{List, [], _∷_, _++_}
+use mathlib.Core.Path.{_≡_, refl, ap, sym, _∙_, subst₂, subst₃}
+use mathlib.Core.List.{[], _∷_, _++_}
 use mathlib.Core.Logic.{_⊎_, inl, inr}
-use Prim.Native.Nat.{ℕ, _≤_}
+use Prim.Native.Nat.{ℕ}
 use native.Mathlib.Omega.{arith}
 use lib.ListN.{length}
 use Rattle.std.specs.declared.option.Option.{Option}
 use Rattle.std.specs.declared.option.Option.the-variants.{Some, None}
 use Rattle.calculus.specs.declared.values.Value.{Value}
 use Rattle.calculus.specs.declared.values.Value.the-variants.{Figure, Location}
-use Rattle.calculus.specs.Places.{nth, if-some}
+use Rattle.calculus.specs.Places.{nth}
 use Rattle.calculus.specs.Terms.{Term, var, val, object, select, update, clone, bind, subst₁, Closed, Within}
 use Rattle.semantics.specs.Objects.{Object, Store, method-at, with-method}
 use Rattle.semantics.specs.Reduction.{Kind, making, selecting, updating, cloning, letting, Context, hole, selectIn, updateIn, cloneIn, bindIn, plug}
 use Rattle.semantics.specs.Reduction.{methods, Rule, red-object, red-select, red-update, red-clone, red-let, Reduces, reduces}
 use Rattle.semantics.specs.Reduction.{Stuck, TakesFigure, select-figure, update-figure, clone-figure, LacksLabel, select-missing, update-missing}
 use Rattle.semantics.specs.Redexes.{Redex, varRedex, objectRedex, selectRedex, updateRedex, cloneRedex, letRedex, termOf}
-use Rattle.semantics.specs.Redexes.{Decomposition, value, at, recompose, around, decompose, Contraction, idle, to, contract}
+use Rattle.semantics.specs.Redexes.{Decomposition, value, at, recompose, around, decompose, idle, to, contract, Found}
+use Rattle.semantics.specs.Laws.{ReductionIsFound, ReductionIsDeterministic}
 use Rattle.semantics.proofs.Objects.{method-missing, object-missing}
 
 redex-decomposes : (r : Redex) → decompose (termOf r) ≡ at hole r
@@ -96,22 +97,33 @@ fires-or-idles (cloneRedex (Figure k)) σ = idles refl (inl (inl clone-figure))
 fires-or-idles (cloneRedex (Location n)) σ = clone-fires σ n (nth σ n) refl
 fires-or-idles (letRedex v b) σ = fires letting (subst₁ v b) σ red-let
 
--- a reduction is found by decompose and contract
-pub record Found (k : Kind) (t : Term) (σ : Store Term) (t′ : Term) (σ′ : Store Term) : Type 0 where
-  pub context : Context
-  pub redex : Redex
-  pub after : Term
-  pub decomposes : decompose t ≡ at context redex
-  pub does : contract redex σ ≡ to k after σ′
-  pub gives : t′ ≡ plug context after
-
 pub reduction-found : {k : Kind} {t : Term} {σ : Store Term} {t′ : Term} {σ′ : Store Term} → Reduces k t σ t′ σ′ → Found k t σ t′ σ′
 reduction-found (reduces {a = a} {a′ = a′} R rule) =
     let c = rule-contracts rule in
     record { context = R; redex = c .redex; after = a′; decomposes = ap (λ x. decompose (plug R x)) (c .is) ∙ plug-decomposes R (c .redex); does = c .does; gives = refl }
 
-pub deterministic : (k k′ : Kind) (t : Term) (σ : Store Term) (t′ : Term) (σ′ : Store Term) (t″ : Term) (σ″ : Store Term) → Reduces k t σ t′ σ′ → Reduces k′ t σ t″ σ″ →
-    (k ≡ k′) × (t′ ≡ t″) × (σ′ ≡ σ″)
+rule-does : {k : Kind} {a : Term} {σ σ′ : Store Term} (r : Redex) → Rule k (termOf r) σ a σ′ → contract r σ ≡ to k a σ′
+rule-does r rule =
+    let c = rule-contracts rule in
+    let e : r ≡ c .redex = cc (redex-decomposes r, redex-decomposes (c .redex), ap decompose (c .is)) in
+    cc (c .does)
+
+redex-reduces : (R : Context) (r : Redex) (σ : Store Term) (k : Kind) (a : Term) (σ′ : Store Term) → contract r σ ≡ to k a σ′ → Fires r σ → Reduces k (plug R (termOf r)) σ (plug R a) σ′
+redex-reduces R r σ k a σ′ h (fires j b ρ rule) = fired (rule-does r rule)
+  where
+    fired : contract r σ ≡ to j b ρ → Reduces k (plug R (termOf r)) σ (plug R a) σ′
+    fired g = let p : j ≡ k = cc in let q : b ≡ a = cc in let s : ρ ≡ σ′ = cc in subst₃ (λ i x τ. Reduces i (plug R (termOf r)) σ (plug R x) τ) p q s (reduces R rule)
+redex-reduces R r σ k a σ′ h (idles g y) = let z : _≡_ {A = ℕ} 0 1 = cc in absurd (omega arith)
+
+pub reduction-is-found : ReductionIsFound
+reduction-is-found k t σ t′ σ′ = (λ p. reduction-found p, found-reduces)
+  where
+    found-reduces : Found k t σ t′ σ′ → Reduces k t σ t′ σ′
+    found-reduces f =
+        subst₂ (λ x y. Reduces k x σ y σ′) (ap recompose (sym (f .decomposes)) ∙ recomposes t) (sym (f .gives))
+        (redex-reduces (f .context) (f .redex) σ k (f .after) σ′ (f .does) (fires-or-idles (f .redex) σ))
+
+pub deterministic : ReductionIsDeterministic
 deterministic k k′ t σ t′ σ′ t″ σ″ p q = same (reduction-found p) (reduction-found q)
   where
     same : Found k t σ t′ σ′ → Found k′ t σ t″ σ″ → (k ≡ k′) × (t′ ≡ t″) × (σ′ ≡ σ″)

@@ -1,14 +1,15 @@
 -- A closed term within its store is stuck exactly where it is faulty.
 use mathlib.Core.Path.{_≡_, refl, ap, _∙_, subst}
-use mathlib.Core.Logic.{_⊎_, inl, inr, _↔_}
+use mathlib.Core.Logic.{inl, inr}
 use Prim.Native.Nat.{ℕ}
 use lib.ListN.{length}
 use Rattle.calculus.specs.declared.values.Value.the-variants.{Figure, Location}
 use Rattle.calculus.specs.Terms.{Term, Closed, Within}
 use Rattle.semantics.specs.Objects.{Store}
-use Rattle.semantics.specs.Reduction.{Context, hole, selectIn, updateIn, cloneIn, bindIn, plug, reduces, Stuck, AtPoint, Faulty}
+use Rattle.semantics.specs.Reduction.{Context, hole, selectIn, updateIn, cloneIn, bindIn, plug, reduces, Stuck, Faulty}
 use Rattle.semantics.specs.Reduction.{TakesFigure, select-figure, update-figure, clone-figure, LacksLabel, select-missing, update-missing}
 use Rattle.semantics.specs.Redexes.{Redex, selectRedex, updateRedex, cloneRedex, termOf, Decomposition, value, at, recompose, decompose, idle, contract}
+use Rattle.semantics.specs.Laws.{StuckIsFaulty}
 use Rattle.semantics.proofs.Objects.{method-in}
 use Rattle.semantics.proofs.Decomposing.{plug-decomposes, recomposes, Why, Fires, fires, idles, fires-or-idles, idle-stuck}
 
@@ -61,6 +62,6 @@ decomposed-faulty : (d : Decomposition) (σ : Store Term) → Closed 0 (recompos
 decomposed-faulty (value v) σ c w s = absurd (s .no-value v refl)
 decomposed-faulty (at R r) σ c w s = redex-faulty R r σ c w s (fires-or-idles r σ)
 
-pub stuck-is-faulty : (t : Term) (σ : Store Term) → Closed 0 t → Within (length σ) t → Stuck t σ ↔ Faulty t σ
+pub stuck-is-faulty : StuckIsFaulty
 stuck-is-faulty t σ c w =
     (subst (λ x. Closed 0 x → Within (length σ) x → Stuck x σ → Faulty x σ) (recomposes t) (decomposed-faulty (decompose t) σ) c w, faulty-stuck t σ)

@@ -10,6 +10,7 @@ use Rattle.semantics.specs.Objects.{Store}
 use Rattle.semantics.specs.Reduction.{Kind, Context, hole, selectIn, updateIn, cloneIn, bindIn, plug, Rule, Reduces, reduces, Stuck}
 use Rattle.semantics.specs.Redexes.{Redex, termOf, Decomposition, value, at, recompose, decompose, idle, contract}
 use Rattle.semantics.specs.Frames.{Framed, framed, plugAll, whole, opens, FramedReduces, stays, enters, Closes, closes, ClosesAll, none-due, one-closes, FramedReduction}
+use Rattle.semantics.specs.Laws.{FramesReduceAlike}
 use Rattle.semantics.proofs.Decomposing.{plug-decomposes, recomposes, Fires, fires, idles, fires-or-idles, reduction-found, deterministic, idle-stuck}
 
 -- the context R inside the context Q
@@ -55,7 +56,7 @@ framed-reduces (enters {k} {a} {a′} {Rs} {σ} {σ′} R h rule) = rule-under k
 pub closes-keeps : {F F′ : Framed} → Closes F F′ → whole F ≡ whole F′
 closes-keeps closes = refl
 
-closes-all-keep : {F F′ : Framed} → ClosesAll F F′ → whole F ≡ whole F′
+pub closes-all-keep : {F F′ : Framed} → ClosesAll F F′ → whole F ≡ whole F′
 closes-all-keep none-due = refl
 closes-all-keep (one-closes p ps) = closes-keeps p ∙ closes-all-keep ps
 
@@ -88,9 +89,12 @@ framed-decomposed (R ∷ Rs) (value v) σ k t′ σ′ p =
     (subst (λ x. Reduces k (plugAll Rs x) σ t′ σ′ → FramedReduction k (framed x Rs) σ t′ σ′) (recomposes (plug R (val v))) (framed-decomposed Rs (decompose (plug R (val v))) σ k t′ σ′) p)
 framed-decomposed Rs (at R r) σ k t′ σ′ p = framed-redex Rs R r σ k t′ σ′ p (fires-or-idles r σ)
 
-pub reduces-framed : (k : Kind) (F : Framed) (σ : Store Term) (t′ : Term) (σ′ : Store Term) → Reduces k (whole F) σ t′ σ′ → FramedReduction k F σ t′ σ′
+reduces-framed : (k : Kind) (F : Framed) (σ : Store Term) (t′ : Term) (σ′ : Store Term) → Reduces k (whole F) σ t′ σ′ → FramedReduction k F σ t′ σ′
 reduces-framed k (framed t Rs) σ t′ σ′ =
     subst (λ x. Reduces k (plugAll Rs x) σ t′ σ′ → FramedReduction k (framed x Rs) σ t′ σ′) (recomposes t) (framed-decomposed Rs (decompose t) σ k t′ σ′)
 
-pub framed-whole : (k : Kind) (F : Framed) (σ : Store Term) (t′ : Term) (σ′ : Store Term) → FramedReduction k F σ t′ σ′ → Reduces k (whole F) σ t′ σ′
+framed-whole : (k : Kind) (F : Framed) (σ : Store Term) (t′ : Term) (σ′ : Store Term) → FramedReduction k F σ t′ σ′ → Reduces k (whole F) σ t′ σ′
 framed-whole k F σ t′ σ′ z = subst₂ (λ x y. Reduces k x σ y σ′) (sym (closes-all-keep (z .closing))) (z .gives) (framed-reduces (z .reduction))
+
+pub frames-reduce-alike : FramesReduceAlike
+frames-reduce-alike k F σ t′ σ′ = (reduces-framed k F σ t′ σ′, framed-whole k F σ t′ σ′)

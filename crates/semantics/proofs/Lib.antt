@@ -7,3 +7,9 @@ pub mod WellFormed
 pub mod Framing
 pub mod Translating
 pub mod Simulation
+pub mod Statuses
+pub mod Settling
+pub mod Runs
+pub mod Counting
+pub mod Flattening
+pub mod Programs

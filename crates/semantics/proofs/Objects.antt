@@ -11,7 +11,7 @@ use lib.ListN.{length}
 use Rattle.std.specs.declared.option.Option.{Option}
 use Rattle.std.specs.declared.option.Option.the-variants.{Some, None}
 use Rattle.calculus.specs.Places.{nth, if-some}
-use Rattle.semantics.specs.Objects.{Labelled, labelled, Object, Store, find, replace, method-at, with-method, InObject, InStore, relabel, mapStore}
+use Rattle.semantics.specs.Objects.{labelled, Object, Store, find, replace, method-at, with-method, AllInObject, AllInStore, relabel, mapStore}
 
 module _ {X : Type 0} where
   pub method-in : (s : Store X) (n l : ℕ) (o : Object X) → nth s n ≡ Some o → method-at s n l ≡ find o l
@@ -31,7 +31,7 @@ module _ {X : Type 0} where
   object-missing (o ∷ s) (suc n) h i = object-missing s n h (le-of-suc-le-suc i)
 
 module _ {X : Type 0} (P : X → Type 0) where
-  find-has : (o : Object X) (l : ℕ) (x : X) → InObject P o → find o l ≡ Some x → P x
+  find-has : (o : Object X) (l : ℕ) (x : X) → AllInObject P o → find o l ≡ Some x → P x
   find-has [] l x p h = let z : _≡_ {A = ℕ} 0 1 = cc in absurd (omega arith)
   find-has (labelled l′ y ∷ o) l x p h = pick (eqb l′ l) (find-has o l x (p .1)) h
     where
@@ -39,39 +39,39 @@ module _ {X : Type 0} (P : X → Type 0) where
       pick true later e = let q : y ≡ x = cc in subst P q (p .0)
       pick false later e = later e
 
-  replace-has : (o : Object X) (l : ℕ) (x : X) → InObject P o → P x → InObject P (replace o l x)
+  replace-has : (o : Object X) (l : ℕ) (x : X) → AllInObject P o → P x → AllInObject P (replace o l x)
   replace-has [] l x p h = tt
   replace-has (labelled l′ y ∷ o) l x p h = pick (eqb l′ l) (replace-has o l x (p .1) h)
     where
-      pick : (b : Bool) → InObject P (replace o l x) → InObject P (cond b (labelled l′ x ∷ o) (labelled l′ y ∷ replace o l x))
+      pick : (b : Bool) → AllInObject P (replace o l x) → AllInObject P (cond b (labelled l′ x ∷ o) (labelled l′ y ∷ replace o l x))
       pick true q = (h, p .1)
       pick false q = (p .0, q)
 
-  pub method-has : (s : Store X) (n l : ℕ) (x : X) → InStore P s → method-at s n l ≡ Some x → P x
+  pub method-has : (s : Store X) (n l : ℕ) (x : X) → AllInStore P s → method-at s n l ≡ Some x → P x
   method-has [] n l x p h = let z : _≡_ {A = ℕ} 0 1 = cc in absurd (omega arith)
   method-has (o ∷ s) zero l x p h = find-has o l x (p .0) h
   method-has (o ∷ s) (suc n) l x p h = method-has s n l x (p .1) h
 
-  pub object-has : (s : Store X) (n : ℕ) (o : Object X) → InStore P s → nth s n ≡ Some o → InObject P o
+  pub object-has : (s : Store X) (n : ℕ) (o : Object X) → AllInStore P s → nth s n ≡ Some o → AllInObject P o
   object-has [] n o p h = let z : _≡_ {A = ℕ} 0 1 = cc in absurd (omega arith)
-  object-has (q ∷ s) zero o p h = let e : q ≡ o = cc in subst (InObject P) e (p .0)
+  object-has (q ∷ s) zero o p h = let e : q ≡ o = cc in subst (AllInObject P) e (p .0)
   object-has (q ∷ s) (suc n) o p h = object-has s n o (p .1) h
 
-  pub with-has : (s : Store X) (n l : ℕ) (x : X) → InStore P s → P x → InStore P (with-method s n l x)
+  pub with-has : (s : Store X) (n l : ℕ) (x : X) → AllInStore P s → P x → AllInStore P (with-method s n l x)
   with-has [] n l x p h = tt
   with-has (o ∷ s) zero l x p h = (replace-has o l x (p .0) h, p .1)
   with-has (o ∷ s) (suc n) l x p h = (p .0, with-has s n l x (p .1) h)
 
-  pub push-has : (s : Store X) (o : Object X) → InStore P s → InObject P o → InStore P (s ++ (o ∷ []))
+  pub push-has : (s : Store X) (o : Object X) → AllInStore P s → AllInObject P o → AllInStore P (s ++ (o ∷ []))
   push-has [] o p h = (h, tt)
   push-has (q ∷ s) o p h = (p .0, push-has s o (p .1) h)
 
 module _ {X : Type 0} (P Q : X → Type 0) (f : (x : X) → P x → Q x) where
-  pub object-grows : (o : Object X) → InObject P o → InObject Q o
+  pub object-grows : (o : Object X) → AllInObject P o → AllInObject Q o
   object-grows [] p = tt
   object-grows (labelled l x ∷ o) p = (f x (p .0), object-grows o (p .1))
 
-  pub store-grows : (s : Store X) → InStore P s → InStore Q s
+  pub store-grows : (s : Store X) → AllInStore P s → AllInStore Q s
   store-grows [] p = tt
   store-grows (o ∷ s) p = (object-grows o (p .0), store-grows s (p .1))
 

@@ -1,5 +1,5 @@
 -- Sequences one after another, and sequences of steps that mirror those of another.
-use mathlib.Core.List.{List, [], _∷_, _++_}
+use mathlib.Core.List.{List, _++_}
 use Rattle.semantics.specs.Sequences.{Sequence, ends, also}
 
 module _ {L A B : Type 0} (Step : L → A → B → A → B → Type 0) where

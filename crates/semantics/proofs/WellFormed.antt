@@ -1,5 +1,5 @@
 -- Reduction keeps a configuration closed and within its store; a program starts so.
-use mathlib.Core.Path.{_≡_, refl, sym, subst}
+use mathlib.Core.Path.{_≡_, refl}
 use mathlib.Core.List.{List, [], _∷_, _++_}
 use mathlib.Core.Bool.{Bool, true, false, cond}
 use Prim.Native.Nat.{ℕ, zero, suc, _+_, _-_, _≤_, _<_}
@@ -9,12 +9,13 @@ use lib.ListN.{length, length-append}
 use Rattle.calculus.specs.declared.values.Value.{Value}
 use Rattle.calculus.specs.declared.values.Value.the-variants.{Figure, Location}
 use Rattle.calculus.specs.Terms.{Term, var, val, object, select, update, clone, bind, Methods, nil, method, subst₁}
-use Rattle.calculus.specs.Terms.{past, instVar, inst, instAll, Closed, ClosedAll, Within, WithinAll, Static, StaticAll}
-use Rattle.semantics.specs.Objects.{Object, Store, with-method, InObject, InStore}
+use Rattle.calculus.specs.Terms.{past, inst, instAll, Closed, ClosedAll, Within, WithinAll, Static, StaticAll}
+use Rattle.semantics.specs.Objects.{Object, Store, AllInObject}
 use Rattle.semantics.specs.Sequences.{ends, also}
 use Rattle.semantics.specs.Reduction.{Kind, Context, hole, selectIn, updateIn, cloneIn, bindIn, plug, methods}
 use Rattle.semantics.specs.Reduction.{Rule, red-object, red-select, red-update, red-clone, red-let, Reduces, reduces, Reductions}
 use Rattle.semantics.specs.Reduction.{WellFormedBody, WellFormedStore, WellFormed, ValuesWithin}
+use Rattle.semantics.specs.Laws.{ProgramsStartWellFormed}
 use Rattle.semantics.proofs.Objects.{method-has, object-has, with-has, push-has, store-grows, object-grows, length-with}
 use Rattle.semantics.proofs.Faults.{closed-inside, within-inside}
 
@@ -90,12 +91,12 @@ mutual
 body-grows : (n m : ℕ) → n ≤ m → (b : Term) → WellFormedBody n b → WellFormedBody m b
 body-grows n m h b w = (w .0, within-grows n m h b (w .1))
 
-methods-well-formed : (n : ℕ) (ms : Methods) → ClosedAll 0 ms → WithinAll n ms → InObject (WellFormedBody n) (methods ms)
+methods-well-formed : (n : ℕ) (ms : Methods) → ClosedAll 0 ms → WithinAll n ms → AllInObject (WellFormedBody n) (methods ms)
 methods-well-formed n nil c w = tt
 methods-well-formed n (method l b ms) c w = ((c .0, w .0), methods-well-formed n ms (c .1) (w .1))
 
 -- a new object at the end of the store
-new-object : (σ : Store Term) (o : Object Term) → WellFormedStore (length σ) σ → InObject (WellFormedBody (length σ)) o →
+new-object : (σ : Store Term) (o : Object Term) → WellFormedStore (length σ) σ → AllInObject (WellFormedBody (length σ)) o →
     WellFormed (val (Location (length σ))) (σ ++ (o ∷ [])) × (length σ ≤ length (σ ++ (o ∷ [])))
 new-object σ o p q =
     let m : length (σ ++ (o ∷ [])) ≡ suc (length σ) = simp length-append (omega arith) in
@@ -145,7 +146,7 @@ reductions-keep (also p ps) h = reductions-keep ps (reduction-keeps p h)
 -- A program with its givens.
 
 mutual
-  static-within : (n : ℕ) (t : Term) → Static t → Within n t
+  pub static-within : (n : ℕ) (t : Term) → Static t → Within n t
   static-within n (var i) h = tt
   static-within n (val (Figure k)) h = tt
   static-within n (val (Location m)) h = absurd h
@@ -159,7 +160,6 @@ mutual
   statics-within n nil h = tt
   statics-within n (method l b ms) h = (static-within n b (h .0), statics-within n ms (h .1))
 
-pub starts-well-formed : (t : Term) (vs : List Value) (σ : Store Term) → Static t → Closed (length vs) t → ValuesWithin (length σ) vs → WellFormedStore (length σ) σ →
-    WellFormed (inst 0 vs t) σ
+pub starts-well-formed : ProgramsStartWellFormed
 starts-well-formed t vs σ s c w o =
     record { closed = inst-closed (length vs) 0 vs (omega arith) t c; within = inst-within (length σ) 0 vs w t (static-within (length σ) t s); objects = o }

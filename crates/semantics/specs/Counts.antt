@@ -25,11 +25,12 @@ abbrev pub count : Kind → List Kind → ℕ
 count k [] = 0
 count k (j ∷ ks) = cond (eqb (kind-number j) (kind-number k)) 1 0 + count k ks
 
--- the transitions that reductions bring with them, but for those of the heads that objects are
+-- The transitions that reductions add to those due: a select or let itself, the head of the body and the return;
+-- an update or a clone itself; an object none, since it is a head that was due.
 abbrev pub cost : List Kind → ℕ
 cost ks = 3 * (count selecting ks + count letting ks) + count updating ks + count cloning ks
 
--- the transitions that are due whatever comes: the head of the list, if it is not yet done, and a return for each frame
+-- the transitions due whatever comes: the head of the list, where the accumulator is empty, and a return for each frame
 abbrev pub owed : State → ℕ
 owed (empty c e rs) = suc (length rs)
 owed (full r e v rs) = length rs

@@ -16,6 +16,9 @@ abbrev pub plugAll : List Context → Term → Term
 plugAll [] t = t
 plugAll (R ∷ Rs) t = plugAll Rs (plug R t)
 
+abbrev pub waiting : Framed → List Context
+waiting (framed t Rs) = Rs
+
 -- the term that a framed term stands for
 abbrev pub whole : Framed → Term
 whole (framed t Rs) = plugAll Rs t

@@ -7,3 +7,6 @@ pub mod Machine
 pub mod Unloading
 pub mod Counts
 pub mod Lists
+pub mod Agreement
+pub mod Laws
+pub mod Examples

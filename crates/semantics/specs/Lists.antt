@@ -14,7 +14,7 @@ use Rattle.calculus.specs.Trees.{Code, accessOp, figureOp, objectOp, Rest, done
 use Rattle.semantics.specs.Objects.{labelled, Object, Store, method-at, with-method, mapStore}
 use Rattle.semantics.specs.Sequences.{Sequence}
 use Rattle.semantics.specs.Reduction.{making, selecting, updating, cloning, letting}
-use Rattle.semantics.specs.Machine.{Env, variable, Closure, closure, MStore, State, empty, full, returning, loading, Label, τ, β}
+use Rattle.semantics.specs.Machine.{Env, variable, Closure, closure, TreeStore, Frame, State, empty, full, returning, loading, Label, τ, β, Run}
 
 mutual
   pub data Op : Type 0 where
@@ -68,21 +68,21 @@ pub data ListState : Type 0 where
   state : Ops → Env → Option Value → List (Closure Ops) → ListState
 
 pub data ListTransition : Label → ListState → ListStore → ListState → ListStore → Type 0 where
-  return : {p : Ops} {e e′ : Env} {v : Value} {rs : List (Closure Ops)} {s : ListStore} →
+  τ-RETURN : {p : Ops} {e e′ : Env} {v : Value} {rs : List (Closure Ops)} {s : ListStore} →
       ListTransition (τ returning) (state end e (Some v) (closure p e′ ∷ rs)) s (state p e′ (Some v) rs) s
-  access : {j : ℕ} {p : Ops} {e : Env} {v : Value} {rs : List (Closure Ops)} {s : ListStore} → variable e j ≡ Some v →
+  τ-ACCESS : {j : ℕ} {p : Ops} {e : Env} {v : Value} {rs : List (Closure Ops)} {s : ListStore} → variable e j ≡ Some v →
       ListTransition (τ loading) (state (op (ACCESS j) p) e None rs) s (state p e (Some v) rs) s
-  figure : {k : ℤ} {p : Ops} {e : Env} {rs : List (Closure Ops)} {s : ListStore} →
+  τ-FIGURE : {k : ℤ} {p : Ops} {e : Env} {rs : List (Closure Ops)} {s : ListStore} →
       ListTransition (τ loading) (state (op (FIGURE k) p) e None rs) s (state p e (Some (Figure k)) rs) s
-  make : {ps : LabelledOps} {p : Ops} {e : Env} {rs : List (Closure Ops)} {s : ListStore} →
+  β-OBJECT : {ps : LabelledOps} {p : Ops} {e : Env} {rs : List (Closure Ops)} {s : ListStore} →
       ListTransition (β making) (state (op (OBJECT ps) p) e None rs) s (state p e (Some (Location (length s))) rs) (s ++ (closeOps e ps ∷ []))
-  call : {l n : ℕ} {p q : Ops} {e e′ : Env} {rs : List (Closure Ops)} {s : ListStore} → method-at s n l ≡ Some (closure q e′) →
+  β-SELECT : {l n : ℕ} {p q : Ops} {e e′ : Env} {rs : List (Closure Ops)} {s : ListStore} → method-at s n l ≡ Some (closure q e′) →
       ListTransition (β selecting) (state (op (SELECT l) p) e (Some (Location n)) rs) s (state q (Location n ∷ e′) None (closure p e ∷ rs)) s
-  change : {l n : ℕ} {p q : Ops} {e : Env} {rs : List (Closure Ops)} {s : ListStore} {old : Closure Ops} → method-at s n l ≡ Some old →
+  β-UPDATE : {l n : ℕ} {p q : Ops} {e : Env} {rs : List (Closure Ops)} {s : ListStore} {old : Closure Ops} → method-at s n l ≡ Some old →
       ListTransition (β updating) (state (op (UPDATE l q) p) e (Some (Location n)) rs) s (state p e (Some (Location n)) rs) (with-method s n l (closure q e))
-  copy : {n : ℕ} {p : Ops} {e : Env} {rs : List (Closure Ops)} {s : ListStore} {o : Object (Closure Ops)} → nth s n ≡ Some o →
+  β-CLONE : {n : ℕ} {p : Ops} {e : Env} {rs : List (Closure Ops)} {s : ListStore} {o : Object (Closure Ops)} → nth s n ≡ Some o →
       ListTransition (β cloning) (state (op CLONE p) e (Some (Location n)) rs) s (state p e (Some (Location (length s))) rs) (s ++ (o ∷ []))
-  enter : {p q : Ops} {e : Env} {v : Value} {rs : List (Closure Ops)} {s : ListStore} →
+  β-LET : {p q : Ops} {e : Env} {v : Value} {rs : List (Closure Ops)} {s : ListStore} →
       ListTransition (β letting) (state (op (LET q) p) e (Some v) rs) s (state q (v ∷ e) None (closure p e ∷ rs)) s
 
 abbrev pub ListRun : List Label → ListState → ListStore → ListState → ListStore → Type 0
@@ -106,13 +106,28 @@ abbrev mutual
   flatBodies noBody = no-ops
   flatBodies (body l c bs) = ops l (flatCode c) (flatBodies bs)
 
-module _ {C : Type 0} where
-  abbrev pub flatClosure : (C → Ops) → Closure C → Closure Ops
-  flatClosure f (closure c e) = closure (f c) e
+abbrev pub flatBody : Closure Code → Closure Ops
+flatBody (closure c e) = closure (flatCode c) e
 
-abbrev pub flatStore : MStore → ListStore
-flatStore s = mapStore (flatClosure flatCode) s
+abbrev pub flatFrame : Frame → Closure Ops
+flatFrame (closure r e) = closure (flatRest r) e
+
+abbrev pub flatStore : TreeStore → ListStore
+flatStore s = mapStore flatBody s
 
 abbrev pub flatState : State → ListState
-flatState (empty c e rs) = state (flatCode c) e None (map (flatClosure flatRest) rs)
-flatState (full r e v rs) = state (flatRest r) e (Some v) (map (flatClosure flatRest) rs)
+flatState (empty c e rs) = state (flatCode c) e None (map flatFrame rs)
+flatState (full r e v rs) = state (flatRest r) e (Some v) (map flatFrame rs)
+
+-- a run on trees whose end, flattened, is this
+pub record TreeRun (xs : List Label) (S : State) (s : TreeStore) (S′ : ListState) (s′ : ListStore) : Type 0 where
+  pub end-state : State
+  pub end-store : TreeStore
+  pub run : Run xs S s end-state end-store
+  pub states : flatState end-state ≡ S′
+  pub stores : flatStore end-store ≡ s′
+
+-- neither finished nor with a transition
+pub record ListBlocked (S : ListState) (s : ListStore) : Type 0 where
+  pub unfinished : (e : Env) (v : Value) → S ≡ state end e (Some v) [] → ⊥
+  pub no-transition : (x : Label) (S′ : ListState) (s′ : ListStore) → ListTransition x S s S′ s′ → ⊥

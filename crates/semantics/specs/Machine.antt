@@ -19,6 +19,7 @@ use Rattle.semantics.specs.Reduction.{Kind, making, selecting, updating, cloni
 abbrev pub Env : Type 0
 Env = List Value
 
+-- the value of the variable j, from 1 on
 abbrev pub variable : Env → ℕ → Option Value
 variable e zero = None
 variable e (suc j) = nth e j
@@ -32,8 +33,8 @@ abbrev pub close : Env → Bodies → Object (Closure Code)
 close e noBody = []
 close e (body l c bs) = labelled l (closure c e) ∷ close e bs
 
-abbrev pub MStore : Type 0
-MStore = Store (Closure Code)
+abbrev pub TreeStore : Type 0
+TreeStore = Store (Closure Code)
 
 -- a return frame
 abbrev pub Frame : Type 0
@@ -52,25 +53,25 @@ pub data Label : Type 0 where
   τ : Silent → Label
   β : Kind → Label
 
-pub data Transition : Label → State → MStore → State → MStore → Type 0 where
-  τ-return : {r : Rest} {e e′ : Env} {v : Value} {rs : List Frame} {s : MStore} →
+pub data Transition : Label → State → TreeStore → State → TreeStore → Type 0 where
+  τ-return : {r : Rest} {e e′ : Env} {v : Value} {rs : List Frame} {s : TreeStore} →
       Transition (τ returning) (full done e v (closure r e′ ∷ rs)) s (full r e′ v rs) s
-  τ-access : {j : ℕ} {r : Rest} {e : Env} {v : Value} {rs : List Frame} {s : MStore} → variable e j ≡ Some v →
+  τ-access : {j : ℕ} {r : Rest} {e : Env} {v : Value} {rs : List Frame} {s : TreeStore} → variable e j ≡ Some v →
       Transition (τ loading) (empty (accessOp j r) e rs) s (full r e v rs) s
-  τ-figure : {k : ℤ} {r : Rest} {e : Env} {rs : List Frame} {s : MStore} →
+  τ-figure : {k : ℤ} {r : Rest} {e : Env} {rs : List Frame} {s : TreeStore} →
       Transition (τ loading) (empty (figureOp k r) e rs) s (full r e (Figure k) rs) s
-  β-object : {bs : Bodies} {r : Rest} {e : Env} {rs : List Frame} {s : MStore} →
+  β-object : {bs : Bodies} {r : Rest} {e : Env} {rs : List Frame} {s : TreeStore} →
       Transition (β making) (empty (objectOp bs r) e rs) s (full r e (Location (length s)) rs) (s ++ (close e bs ∷ []))
-  β-select : {l n : ℕ} {r : Rest} {e e′ : Env} {c : Code} {rs : List Frame} {s : MStore} → method-at s n l ≡ Some (closure c e′) →
+  β-select : {l n : ℕ} {r : Rest} {e e′ : Env} {c : Code} {rs : List Frame} {s : TreeStore} → method-at s n l ≡ Some (closure c e′) →
       Transition (β selecting) (full (selectOp l r) e (Location n) rs) s (empty c (Location n ∷ e′) (closure r e ∷ rs)) s
-  β-update : {l n : ℕ} {c : Code} {r : Rest} {e : Env} {rs : List Frame} {s : MStore} {old : Closure Code} → method-at s n l ≡ Some old →
+  β-update : {l n : ℕ} {c : Code} {r : Rest} {e : Env} {rs : List Frame} {s : TreeStore} {old : Closure Code} → method-at s n l ≡ Some old →
       Transition (β updating) (full (updateOp l c r) e (Location n) rs) s (full r e (Location n) rs) (with-method s n l (closure c e))
-  β-clone : {n : ℕ} {r : Rest} {e : Env} {rs : List Frame} {s : MStore} {o : Object (Closure Code)} → nth s n ≡ Some o →
+  β-clone : {n : ℕ} {r : Rest} {e : Env} {rs : List Frame} {s : TreeStore} {o : Object (Closure Code)} → nth s n ≡ Some o →
       Transition (β cloning) (full (cloneOp r) e (Location n) rs) s (full r e (Location (length s)) rs) (s ++ (o ∷ []))
-  β-let : {c : Code} {r : Rest} {e : Env} {v : Value} {rs : List Frame} {s : MStore} →
+  β-let : {c : Code} {r : Rest} {e : Env} {v : Value} {rs : List Frame} {s : TreeStore} →
       Transition (β letting) (full (letOp c r) e v rs) s (empty c (v ∷ e) (closure r e ∷ rs)) s
 
-abbrev pub Run : List Label → State → MStore → State → MStore → Type 0
+abbrev pub Run : List Label → State → TreeStore → State → TreeStore → Type 0
 Run = Sequence Transition
 
 -- the state in which a program starts, with its givens
@@ -82,28 +83,29 @@ abbrev pub Finished : State → Value → Type 0
 Finished S v = (e : Env) × (S ≡ full done e v [])
 
 -- all due silent transitions are made
-abbrev pub Settled : State → MStore → Type 0
-Settled S s = (q : Silent) (S′ : State) (s′ : MStore) → Transition (τ q) S s S′ s′ → ⊥
+abbrev pub Settled : State → TreeStore → Type 0
+Settled S s = (q : Silent) (S′ : State) (s′ : TreeStore) → Transition (τ q) S s S′ s′ → ⊥
 
-abbrev pub CanMake : Kind → State → MStore → Type 0
-CanMake k S s = (S′ : State) × (s′ : MStore) × Transition (β k) S s S′ s′
+abbrev pub CanMake : Kind → State → TreeStore → Type 0
+CanMake k S s = (S′ : State) × (s′ : TreeStore) × Transition (β k) S s S′ s′
 
 -- not finished, and no transition is possible
-pub record Blocked (S : State) (s : MStore) : Type 0 where
+pub record Blocked (S : State) (s : TreeStore) : Type 0 where
   pub unfinished : (v : Value) → Finished S v → ⊥
-  pub no-transition : (x : Label) (S′ : State) (s′ : MStore) → Transition x S s S′ s′ → ⊥
+  pub no-transition : (x : Label) (S′ : State) (s′ : TreeStore) → Transition x S s S′ s′ → ⊥
 
--- The machine as a function: what it does next.
-pub data Next : Type 0 where
-  halts : Next
-  blocks : Next
-  goes : Label → State → MStore → Next
+-- what a machine does next, whatever its states and stores are
+pub data Next (A B : Type 0) : Type 0 where
+  halts : Next A B
+  blocks : Next A B
+  goes : Label → A → B → Next A B
 
 -- a body with a value for its variable 1
 abbrev pub entered : Closure Code → Value → List Frame → State
 entered (closure c e) v rs = empty c (v ∷ e) rs
 
-abbrev pub step : State → MStore → Next
+-- the machine as a function
+abbrev pub step : State → TreeStore → Next State TreeStore
 step (empty (accessOp j r) e rs) s = if-some (variable e j) (λ v. goes (τ loading) (full r e v rs) s) blocks
 step (empty (figureOp k r) e rs) s = goes (τ loading) (full r e (Figure k) rs) s
 step (empty (objectOp bs r) e rs) s = goes (β making) (full r e (Location (length s)) rs) (s ++ (close e bs ∷ []))

@@ -6,6 +6,7 @@ use lib.Dec.{eqb}
 use Rattle.std.specs.declared.option.Option.{Option}
 use Rattle.std.specs.declared.option.Option.the-variants.{Some, None}
 
+-- a label, and what stands for the body of its method
 pub data Labelled (X : Type 0) : Type 0 where
   labelled : ℕ → X → Labelled X
 
@@ -41,13 +42,13 @@ module _ {X : Type 0} where
   with-method (o ∷ s) (suc n) l x = o ∷ with-method s n l x
 
   -- each body has the property P
-  abbrev pub InObject : (X → Type 0) → Object X → Type 0
-  InObject P [] = Unit {0}
-  InObject P (labelled l x ∷ o) = P x × InObject P o
+  abbrev pub AllInObject : (X → Type 0) → Object X → Type 0
+  AllInObject P [] = Unit {0}
+  AllInObject P (labelled l x ∷ o) = P x × AllInObject P o
 
-  abbrev pub InStore : (X → Type 0) → Store X → Type 0
-  InStore P [] = Unit {0}
-  InStore P (o ∷ s) = InObject P o × InStore P s
+  abbrev pub AllInStore : (X → Type 0) → Store X → Type 0
+  AllInStore P [] = Unit {0}
+  AllInStore P (o ∷ s) = AllInObject P o × AllInStore P s
 
 module _ {X Y : Type 0} where
   -- the same with f of each body

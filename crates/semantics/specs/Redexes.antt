@@ -1,5 +1,6 @@
 -- The point of execution of a term as a function, and what happens there.
-use mathlib.Core.List.{List, [], _∷_, _++_}
+use mathlib.Core.Path.{_≡_}
+use mathlib.Core.List.{[], _∷_, _++_}
 use Prim.Native.Nat.{ℕ}
 use lib.ListN.{length}
 use Rattle.calculus.specs.declared.values.Value.{Value}
@@ -64,3 +65,12 @@ contract (updateRedex (Location n) l b) σ = if-some (method-at σ n l) (λ _. t
 contract (cloneRedex (Figure k)) σ = idle
 contract (cloneRedex (Location n)) σ = if-some (nth σ n) (λ o. to cloning (val (Location (length σ))) (σ ++ (o ∷ []))) idle
 contract (letRedex v b) σ = to letting (subst₁ v b) σ
+
+-- a reduction as it is found: the decomposition of the term, and what its redex contracts to
+pub record Found (k : Kind) (t : Term) (σ : Store Term) (t′ : Term) (σ′ : Store Term) : Type 0 where
+  pub context : Context
+  pub redex : Redex
+  pub after : Term
+  pub decomposes : decompose t ≡ at context redex
+  pub does : contract redex σ ≡ to k after σ′
+  pub gives : t′ ≡ plug context after

@@ -10,7 +10,7 @@ use Rattle.calculus.specs.declared.values.Value.{Value}
 use Rattle.calculus.specs.declared.values.Value.the-variants.{Figure, Location}
 use Rattle.calculus.specs.Places.{nth}
 use Rattle.calculus.specs.Terms.{Term, val, object, select, update, clone, bind, Methods, nil, method, subst₁, Closed, Within}
-use Rattle.semantics.specs.Objects.{Labelled, labelled, Object, Store, find, method-at, with-method, InStore}
+use Rattle.semantics.specs.Objects.{labelled, Object, Store, find, method-at, with-method, AllInStore}
 use Rattle.semantics.specs.Sequences.{Sequence}
 
 -- the kinds of reduction: object, select, update, clone, let
@@ -96,7 +96,7 @@ abbrev pub WellFormedBody : ℕ → Term → Type 0
 WellFormedBody n b = Closed 1 b × Within n b
 
 abbrev pub WellFormedStore : ℕ → Store Term → Type 0
-WellFormedStore n σ = InStore (WellFormedBody n) σ
+WellFormedStore n σ = AllInStore (WellFormedBody n) σ
 
 -- a configuration that is closed and within its store
 pub record WellFormed (t : Term) (σ : Store Term) : Type 0 where

@@ -1,6 +1,6 @@
 -- Unloading: the term, frames and store that a state of the machine stands for.
 use mathlib.Core.Path.{_≡_}
-use mathlib.Core.List.{List, [], _∷_, map}
+use mathlib.Core.List.{List, map}
 use Prim.Native.Nat.{ℕ, suc}
 use Rattle.calculus.specs.declared.values.Value.the-variants.{Figure}
 use Rattle.calculus.specs.Terms.{Term, val, object, select, update, clone, bind, Methods, nil, method, instVar}
@@ -8,7 +8,7 @@ use Rattle.calculus.specs.Trees.{Code, accessOp, figureOp, objectOp, Rest, done
 use Rattle.semantics.specs.Objects.{Store, mapStore}
 use Rattle.semantics.specs.Reduction.{Context, hole, selectIn, updateIn, cloneIn, bindIn}
 use Rattle.semantics.specs.Frames.{Framed, framed, whole, FramedReduces, Closes}
-use Rattle.semantics.specs.Machine.{Env, Closure, closure, MStore, Frame, State, empty, full, returning, loading, Label, τ, β}
+use Rattle.semantics.specs.Machine.{Env, Closure, closure, TreeStore, Frame, State, empty, full, returning, loading, Label, τ, β}
 
 -- Operations under d bound variables; the environment has the values of those after them.
 abbrev mutual
@@ -32,7 +32,7 @@ abbrev mutual
 abbrev pub unloadClosure : Closure Code → Term
 unloadClosure (closure c e) = unloadCode 1 e c
 
-abbrev pub unloadStore : MStore → Store Term
+abbrev pub unloadStore : TreeStore → Store Term
 unloadStore s = mapStore unloadClosure s
 
 -- the context that the rest of a list stands for, around R
