@@ -43,6 +43,17 @@ impl<'a, T: Copy> Stack<'a, T> {
         }
     }
 
+    /// How many entries it can hold.
+    pub fn room(&self) -> usize
+        ensures { λ r. ⌜ r ≡ room (now (self .entry)) ⌝ }
+    {
+        if self.entries.len() < MOST_ENTRIES {
+            self.entries.len()
+        } else {
+            MOST_ENTRIES
+        }
+    }
+
     /// Whether one more finds room.
     pub fn has_room(&self) -> bool
         ensures laid { λ r. ⌜ r ≡ ltb (length (laid (now (self .entry)))) (room (now (self .entry))) ⌝ }

@@ -26,7 +26,7 @@ use Rattle.machine_model.specs.State.{State, due}
 use Rattle.machine_model.specs.Settle.{filled, returned-to, vacant, slack, silent, on-due, settled-for, settled, rest}
 use Rattle.machine_model.specs.Reduce.{Move, decided, acted}
 use Rattle.machine_model.specs.Run.{Turn, turned, halted, or-stop, unless-stopped, allowed, at-rest, turn, Ran, followed, followed-by, run-for}
-use Rattle.machine_model.specs.Laws.{Rests, Resumes}
+use Rattle.machine_model.specs.Laws.{Rests}
 use Rattle.machine_model.proofs.Settles.{settled-rest, due-fills-vacant, due-returns-not}
 
 rests-by : (code : Text) (s : State) (d : Due) (fs : List Frame) → due code s ≡ d → s .frames ≡ fs → slack s ≡ 0 → silent d ≡ false
@@ -97,7 +97,8 @@ allowed-never n code s m a false e = or-stop-never (acted code s m a .answer) e
 allowed-some : (n : ℕ) (code : Text) (s : State) (m : Meaning) (a : Action) → allowed (suc n) code s m a ≡ cond (eqb (s .registers .allowance) 0) (halted s m (stop.Refused fault.AllowanceSpent)) (turned (acted code s m a))
 allowed-some n code s m a = cond-false _ _ _ (ne-eqb (suc n) 0 (λ z. omega arith))
 
-turn-never : (n : ℕ) (code : Text) (s : State) (m : Meaning) → turn (suc n) code s m .answer ≡ Err stop.Paused → ⊥
+-- with a reduction left, a turn does not pause
+pub turn-never : (n : ℕ) (code : Text) (s : State) (m : Meaning) → turn (suc n) code s m .answer ≡ Err stop.Paused → ⊥
 turn-never n code s m e =
     let t : State = settled code s in
     stopped-never (rest (due code t)) t m (λ r. unless-stopped (or-stop (decided code m r)) t m (allowed (suc n) code t m)) (rest-never (due code t))
@@ -147,7 +148,8 @@ resumes-by n k code s m (Err c) p go h =
     let e : c ≡ stop.Paused = ap (λ o. followed o t j (run-for n code) .stop) (sym p) ∙ h in
     absurd (turn-never n code s m (p ∙ ap Err e))
 
-pub resumes : Resumes
+-- a run that stops at a pause and is taken up again is one run
+pub resumes : (n k : ℕ) (code : Text) (s : State) (m : Meaning) → run-for n code s m .stop ≡ stop.Paused → run-for k code (run-for n code s m .state) (run-for n code s m .store) ≡ run-for (n + k) code s m
 resumes zero k code s m h =
     ap (λ t. run-for k code t (run-for 0 code s m .store)) (run-none-state code s m) ∙ ap (λ j. run-for k code (settled code s) j) (run-none-store code s m) ∙ run-settled k code s m ∙ ap (λ i. run-for i code s m) (sym (zero-add k))
 resumes (suc n) k code s m h =

@@ -91,12 +91,15 @@ entered s v env list r = record {
 abbrev pub room-to-enter : State → Result Unit Fault
 room-to-enter s = cond (ltb (length (s .cells)) (s .cell-room)) (cond (ltb (length (s .frames)) (s .frame-room)) (Ok tt) (Err fault.StackFull)) (Err fault.CellsFull)
 
-abbrev pub entering-if : Result Unit Fault → State → Meaning → Value → ℕ → ℕ → Report → Move
-entering-if (Ok u) s m v env list r = moved (entered s v env list r) m
-entering-if (Err f) s m v env list r = refused s m f
+abbrev pub if-ok : Result Unit Fault → State → State → State
+if-ok (Ok u) s t = t
+if-ok (Err f) s t = s
 
-abbrev pub entering : State → Meaning → Value → ℕ → ℕ → Report → Move
-entering s m v env list r = entering-if (room-to-enter s) s m v env list r
+abbrev pub entering : State → Value → ℕ → ℕ → Report → State
+entering s v env list r = if-ok (room-to-enter s) s (entered s v env list r)
+
+abbrev pub enters : State → Meaning → Value → ℕ → ℕ → Report → Move
+enters s m v env list r = record { answer = room-to-enter s; state = entering s v env list r; store = m }
 
 -- by the store's answer, with the meaning that it leaves: 25, 26
 abbrev pub located : State → Meaning → Report → Result ℕ StoreFault → Move
@@ -130,10 +133,10 @@ entries-at code f n = take n (drop f (code .methods))
 -- A method is closed over the environment of the operation that makes or updates it, and entered over its own.
 abbrev pub acted : Text → State → Meaning → Action → Move
 acted code s m (Make f n) = located s (made-by m (entries-at code f n) (s .registers .at .env)) (object-more (s .registers .report)) (make-result m (entries-at code f n))
-acted code s m (Call v c) = entering s m v (c .env) (c .list) (select-more (s .registers .report))
+acted code s m (Call v c) = enters s m v (c .env) (c .list) (select-more (s .registers .report))
 acted code s m (Put l p b) = replaced s (updated m l p (record { list = b; env = s .registers .at .env })) l (update-more (s .registers .report)) (update-result m l p)
 acted code s m (Copied l) = located s (cloned-by m l) (clone-more (s .registers .report)) (clone-result m l)
-acted code s m (Bind v b) = entering s m v (s .registers .at .env) b (let-more (s .registers .report))
+acted code s m (Bind v b) = enters s m v (s .registers .at .env) b (let-more (s .registers .report))
 
 -- an object's entries stand in the table
 abbrev pub Stands : Text → Action → Type 0

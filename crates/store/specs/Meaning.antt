@@ -35,6 +35,10 @@ pub record Meaning : Type 0 where
   pub method-limit : ℕ
   pub trial : Trial
 
+-- a plain store with no objects yet
+abbrev pub begun : ℕ → ℕ → Meaning
+begun object-limit method-limit = record { objects = []; object-limit = object-limit; method-limit = method-limit; trial = no-trial }
+
 -- the sizes of all objects
 abbrev pub total : List Object → ℕ
 total [] = 0
@@ -65,6 +69,9 @@ find-in m l x = at-location m l (λ o. Ok (place-from 0 o x))
 
 abbrev pub with-objects : Meaning → List Object → Meaning
 with-objects m os = record { objects = os; object-limit = m .object-limit; method-limit = m .method-limit; trial = m .trial }
+
+abbrev pub with-trial : Meaning → Trial → Meaning
+with-trial m t = record { objects = m .objects; object-limit = m .object-limit; method-limit = m .method-limit; trial = t }
 
 -- the answer to the wish for one object more, of n methods: its location
 abbrev pub room-for : Meaning → ℕ → Result ℕ StoreFault

@@ -1,5 +1,5 @@
 //! What a store of objects means, and the calls that every kind of store has.
 pub mod closures;
 pub mod faults;
-pub mod methods;
+pub mod layout;
 pub mod store;

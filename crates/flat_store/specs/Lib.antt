@@ -1,0 +1,3 @@
+pub mod Layout
+pub mod Flat
+pub mod Written
