@@ -97,9 +97,10 @@ fn emit_term(
             next
         }
         _ => {
-            let next = emit_term(tables, counts, rows, at + 1, slot - 1);
-            tables.operations[slot] = follower(row, counts.contents);
-            emit_list(tables, counts, rows, next, 0)
+            let body = emit_term(tables, counts, rows, at + 1, slot - 1);
+            let list = counts.contents;
+            tables.operations[slot] = follower(row, list);
+            emit_list(tables, counts, rows, body, 0)
         }
     }
 }

@@ -8,7 +8,7 @@ ghost use Rattle.std.specs.declared.option.Option.the-variants.{Some};
 ghost use Rattle.calculus.specs.Held.{held, room};
 ghost use Rattle.calculus.specs.Text.{text-of};
 ghost use Rattle.listing.specs.Steps.{step-of};
-ghost use Rattle.listing.specs.Listing.{carried, walked, listed, listed-whole};
+ghost use Rattle.listing.specs.Listing.{passed, next-method, carried, walked, listed, listed-whole};
 ghost use Rattle.listing.specs.Cost.{cost};
 ghost use Rattle.listing.specs.Areas.{row-room, rooms, state-of, told, Wrote, lent-rooms};
 use crate::pending::Pending;
@@ -23,6 +23,30 @@ use calculus::refusals::Refusal;
 use calculus::rows::METHOD;
 use calculus::rows::Row;
 use calculus::stack::Stack;
+
+/// The pending list, with the operation at hand passed.
+fn pass(pending: Pending) -> Pending
+    requires { ⌜ pending .next + 1 < 2 ^ 32 ⌝ }
+    ensures { λ r. ⌜ r ≡ passed pending ⌝ }
+{
+    Pending {
+        list: pending.list,
+        next: pending.next + 1,
+        method: pending.method,
+    }
+}
+
+/// The pending list, with the method at hand passed.
+fn pass_method(pending: Pending) -> Pending
+    requires { ⌜ pending .method + 1 < 2 ^ 32 ⌝ }
+    ensures { λ r. ⌜ r ≡ next-method pending ⌝ }
+{
+    Pending {
+        list: pending.list,
+        next: pending.next,
+        method: pending.method + 1,
+    }
+}
 
 /// A turn of the last list begun, which is taken from the stack.
 fn turn(
@@ -41,47 +65,23 @@ fn turn(
     match step_of(code, pending) {
         Step::Ended => Ok(at),
         Step::Passed => {
-            put_on(
-                stack,
-                Pending {
-                    list: pending.list,
-                    next: pending.next + 1,
-                    method: pending.method,
-                },
-            );
+            put_on(stack, pass(pending));
             Ok(at)
         }
         Step::Method(label, body) => {
-            put_on(
-                stack,
-                Pending {
-                    list: pending.list,
-                    next: pending.next,
-                    method: pending.method + 1,
-                },
-            );
-            match put_row(
-                rows,
-                at,
-                Row {
-                    kind: METHOD,
-                    label,
-                    number: 0,
-                },
-            ) {
+            put_on(stack, pass_method(pending));
+            let row = Row {
+                kind: METHOD,
+                label,
+                number: 0,
+            };
+            match put_row(rows, at, row) {
                 Ok(next) => begin(code, body, stack, rows, next),
                 Err(refusal) => Err(refusal),
             }
         }
         Step::Body(body) => {
-            put_on(
-                stack,
-                Pending {
-                    list: pending.list,
-                    next: pending.next + 1,
-                    method: pending.method,
-                },
-            );
+            put_on(stack, pass(pending));
             begin(code, body, stack, rows, at)
         }
         Step::Astray => Err(Refusal::Astray {

@@ -99,14 +99,14 @@ emit-term-add-at-in-rest t c = let lt = ready-lt (c .args .rows .now) (c .args .
 pub emit-term-sub-slot-in-rest : need.emit-term-sub-slot-in-rest
 emit-term-sub-slot-in-rest t c = two-room (c .args .rows .now) (c .args .at) (c .args .slot) (area (c .args .tables .now) (c .args .counts .now)) (λ e. grind arith, λ e. grind arith, λ e. grind arith) (λ e. grind arith) (λ e. grind arith) (c .pre) .0
 
-pub emit-term-emit-term-next-requires-in-rest : need.emit-term-emit-term-next-requires-in-rest
-emit-term-emit-term-next-requires-in-rest t c κs = let lt = ready-lt (c .args .rows .now) (c .args .at) (c .args .slot) (area (c .args .tables .now) (c .args .counts .now)) (c .pre) in (search needs, two-room (c .args .rows .now) (c .args .at) (c .args .slot) (area (c .args .tables .now) (c .args .counts .now)) (λ e. grind arith, λ e. grind arith, λ e. grind arith) (λ e. grind arith) (λ e. grind arith) (c .pre) .1)
+pub emit-term-emit-term-body-requires : need.emit-term-emit-term-body-requires
+emit-term-emit-term-body-requires t c κs = let lt = ready-lt (c .args .rows .now) (c .args .at) (c .args .slot) (area (c .args .tables .now) (c .args .counts .now)) (c .pre) in (search needs, two-room (c .args .rows .now) (c .args .at) (c .args .slot) (area (c .args .tables .now) (c .args .counts .now)) (λ e. grind arith, λ e. grind arith, λ e. grind arith) (λ e. grind arith) (λ e. grind arith) (c .pre) .1)
 
 pub emit-term-index-tables-slot-in-rest : need.emit-term-index-tables-slot-in-rest
-emit-term-index-tables-slot-in-rest t c = two-slot (c .args .rows .now) (c .args .at) (c .args .slot) (area (c .args .tables .now) (c .args .counts .now)) (λ e. grind arith, λ e. grind arith, λ e. grind arith) (λ e. grind arith) (λ e. grind arith) (c .emit-term-next-in-rest .result) (area (c .emit-term-next-in-rest .last .tables) (c .emit-term-next-in-rest .last .counts)) (c .emit-term-next-in-rest .ensures .wrote) (c .pre) (op.Access 0) .0
+emit-term-index-tables-slot-in-rest t c = two-slot (c .args .rows .now) (c .args .at) (c .args .slot) (area (c .args .tables .now) (c .args .counts .now)) (λ e. grind arith, λ e. grind arith, λ e. grind arith) (λ e. grind arith) (λ e. grind arith) (c .emit-term-body .result) (area (c .emit-term-body .last .tables) (c .emit-term-body .last .counts)) (c .emit-term-body .ensures .wrote) (c .pre) (op.Access 0) .0
 
 pub emit-term-emit-list-requires : need.emit-term-emit-list-requires
-emit-term-emit-list-requires t c κs = let lt = ready-lt (c .args .rows .now) (c .args .at) (c .args .slot) (area (c .args .tables .now) (c .args .counts .now)) (c .pre) in (search needs, two-slot (c .args .rows .now) (c .args .at) (c .args .slot) (area (c .args .tables .now) (c .args .counts .now)) (λ e. grind arith, λ e. grind arith, λ e. grind arith) (λ e. grind arith) (λ e. grind arith) (c .emit-term-next-in-rest .result) (area (c .emit-term-next-in-rest .last .tables) (c .emit-term-next-in-rest .last .counts)) (c .emit-term-next-in-rest .ensures .wrote) (c .pre) _ .1)
+emit-term-emit-list-requires t c κs = let lt = ready-lt (c .args .rows .now) (c .args .at) (c .args .slot) (area (c .args .tables .now) (c .args .counts .now)) (c .pre) in (search needs, two-slot (c .args .rows .now) (c .args .at) (c .args .slot) (area (c .args .tables .now) (c .args .counts .now)) (λ e. grind arith, λ e. grind arith, λ e. grind arith) (λ e. grind arith) (λ e. grind arith) (c .emit-term-body .result) (area (c .emit-term-body .last .tables) (c .emit-term-body .last .counts)) (c .emit-term-body .ensures .wrote) (c .pre) _ .1)
 
 pub emit-term-returns-in-3 : need.emit-term-returns-in-3
 emit-term-returns-in-3 t c = let q : c .plain-number-count .result ≡ small (row-at (c .args .rows .now) (c .args .at) .number) = search needs in record { next = (omega (arith, c .emit-methods .ensures .next .0), c .emit-methods .ensures .next .1); wrote = wrote-object (c .args .rows .now) (c .args .at) (c .args .slot) (area (c .args .tables .now) (c .args .counts .now)) (c .in-3 .is) (c .plain-number-count .result) q (c .emit-methods .result) (area (c .emit-methods .last .tables) (c .emit-methods .last .counts)) (c .emit-methods .ensures .wrote) }
@@ -118,4 +118,4 @@ pub emit-term-returns-in-1 : need.emit-term-returns-in-1
 emit-term-returns-in-1 t c = let q : c .leaf .result ≡ leaf-of (row-at (c .args .rows .now) (c .args .at)) = search needs in let lt = ready-lt (c .args .rows .now) (c .args .at) (c .args .slot) (area (c .args .tables .now) (c .args .counts .now)) (c .pre) in record { next = (omega arith, omega arith); wrote = wrote-leaf (c .args .rows .now) (c .args .at) (c .args .slot) (area (c .args .tables .now) (c .args .counts .now)) (grind arith) (c .leaf .result) q }
 
 pub emit-term-returns-in-rest : need.emit-term-returns-in-rest
-emit-term-returns-in-rest t c = let q : c .follower-in-rest .result ≡ follower-of (row-at (c .args .rows .now) (c .args .at)) (c .emit-term-next-in-rest .last .counts .contents) = search needs in record { next = (omega (arith, c .emit-term-next-in-rest .ensures .next .0, c .emit-list .ensures .next .0), c .emit-list .ensures .next .1); wrote = wrote-two (c .args .rows .now) (c .args .at) (c .args .slot) (area (c .args .tables .now) (c .args .counts .now)) (λ e. grind arith, λ e. grind arith, λ e. grind arith) (λ e. grind arith) (λ e. grind arith) (c .emit-term-next-in-rest .result) (area (c .emit-term-next-in-rest .last .tables) (c .emit-term-next-in-rest .last .counts)) (c .emit-term-next-in-rest .ensures .wrote) (c .follower-in-rest .result) q (c .emit-list .result) (area (c .emit-list .last .tables) (c .emit-list .last .counts)) (c .emit-list .ensures .wrote) }
+emit-term-returns-in-rest t c = let q : c .follower-in-rest .result ≡ follower-of (row-at (c .args .rows .now) (c .args .at)) (c .emit-term-body .last .counts .contents) = search needs in record { next = (omega (arith, c .emit-term-body .ensures .next .0, c .emit-list .ensures .next .0), c .emit-list .ensures .next .1); wrote = wrote-two (c .args .rows .now) (c .args .at) (c .args .slot) (area (c .args .tables .now) (c .args .counts .now)) (λ e. grind arith, λ e. grind arith, λ e. grind arith) (λ e. grind arith) (λ e. grind arith) (c .emit-term-body .result) (area (c .emit-term-body .last .tables) (c .emit-term-body .last .counts)) (c .emit-term-body .ensures .wrote) (c .follower-in-rest .result) q (c .emit-list .result) (area (c .emit-list .last .tables) (c .emit-list .last .counts)) (c .emit-list .ensures .wrote) }

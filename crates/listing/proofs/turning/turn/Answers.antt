@@ -28,7 +28,7 @@ returns-in-Ok c =
     let n : row-room rows₁ ≡ row-room rows₀ = omega arith in
     let e : rooms rows₁ s₁ ≡ m = ap (λ (k : ℕ). record { of-rows = k; of-lists = room s₁ }) n ∙ ap (λ (k : ℕ). record { of-rows = row-room rows₀; of-lists = k }) (c .put-on-in-Method .ensures .room) in
     record {
-      answer = c .begin .ensures .answer ∙ ap (λ (k : Room). begun T k b rs (held s₁)) e ∙ ap (λ (ps : List Pending). begun T m b rs ps) (c .put-on-in-Method .ensures .held) ∙ ap (λ x. then x (λ y. begun T m b y (next-method p ∷ held s₀))) (w .answer) ∙ ap (λ d. carried T m (take (c .args .at) rows₀) p (held s₀) d) (c .in-Method .ensures tt .is);
+      answer = c .begin .ensures .answer ∙ ap (λ (k : Room). begun T k b rs (held s₁)) e ∙ ap (λ (ps : List Pending). begun T m b rs ps) (c .put-on-in-Method .ensures .held) ∙ ap (λ (q : Pending). begun T m b rs (q ∷ held s₀)) (c .pass-method .ensures) ∙ ap (λ x. then x (λ y. begun T m b y (next-method p ∷ held s₀))) (w .answer) ∙ ap (λ d. carried T m (take (c .args .at) rows₀) p (held s₀) d) (c .in-Method .ensures tt .is);
       kept = wrote-made _ _ _ _ _ _ (w .kept) (c .begin .ensures .kept);
       room = c .begin .ensures .room ∙ c .put-on-in-Method .ensures .room;
     }
