@@ -1,0 +1,5 @@
+use Rattle.trial_layer.proofs.Ordering.{in-order}
+use Rattle.trial_layer.proofs.laws.books_in_order.Needs as need
+
+pub returns : need.returns
+returns c = in-order
