@@ -18,7 +18,7 @@ use Rattle.machine_model.specs.declared.state.Cell.{Cell}
 use Rattle.machine_model.specs.declared.state.Frame.{Frame}
 use Rattle.machine_model.specs.State.{State}
 use Rattle.semantics.specs.Objects as objects
-use Rattle.semantics.specs.Machine.{Env, closure, MStore, empty, full}
+use Rattle.semantics.specs.Machine.{Env, closure, TreeStore, empty, full}
 use Rattle.semantics.specs.Machine as tree
 use Rattle.machine_laws.specs.Standing.{EnvStands, ClosureStands, MethodStands, ObjectStands, StoreStands, FrameStands, FramesStand, PointStands, StateStands}
 use Rattle.machine_laws.specs.Once.{StandsOnce}
@@ -130,13 +130,13 @@ module _ (T : Text) (cells : List Cell) where
   object-one (m ∷ o) (objects.labelled l f ∷ x) (objects.labelled l′ f′ ∷ y) h g =
       let el : l ≡ l′ = sym (h .0 .0) ∙ g .0 .0 in let ef = closure-one (m .closure) f f′ (h .0 .1) (g .0 .1) in let ex = object-one o x y (h .1) (g .1) in cc
 
-  pub store-one : (os : List Object) (σ σ′ : MStore) → StoreStands T cells os σ → StoreStands T cells os σ′ → σ ≡ σ′
+  pub store-one : (os : List Object) (σ σ′ : TreeStore) → StoreStands T cells os σ → StoreStands T cells os σ′ → σ ≡ σ′
   store-one [] [] [] h g = refl
   store-one [] [] (y ∷ σ′) h g = absurd g
   store-one [] (x ∷ σ) σ′ h g = absurd h
   store-one (o ∷ os) [] σ′ h g = absurd h
   store-one (o ∷ os) (x ∷ σ) [] h g = absurd g
-  store-one (o ∷ os) (x ∷ σ) (y ∷ σ′) h g = ap₂ (λ (a : objects.Object (tree.Closure Code)) (b : MStore). a ∷ b) (object-one o x y (h .0) (g .0)) (store-one os σ σ′ (h .1) (g .1))
+  store-one (o ∷ os) (x ∷ σ) (y ∷ σ′) h g = ap₂ (λ (a : objects.Object (tree.Closure Code)) (b : TreeStore). a ∷ b) (object-one o x y (h .0) (g .0)) (store-one os σ σ′ (h .1) (g .1))
 
   frames-one : (fs : List Frame) (rs rs′ : List tree.Frame) → FramesStand T cells fs rs → FramesStand T cells fs rs′ → rs ≡ rs′
   frames-one [] [] [] h g = refl

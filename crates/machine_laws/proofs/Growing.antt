@@ -14,7 +14,7 @@ use Rattle.store.specs.Meaning.{Object}
 use Rattle.machine_model.specs.declared.state.Cell.{Cell}
 use Rattle.machine_model.specs.declared.state.Frame.{Frame}
 use Rattle.semantics.specs.Objects as objects
-use Rattle.semantics.specs.Machine.{Env, closure, MStore, empty, full}
+use Rattle.semantics.specs.Machine.{Env, closure, TreeStore, empty, full}
 use Rattle.semantics.specs.Machine as tree
 use Rattle.machine_laws.specs.Standing.{EnvStands, MethodStands, ObjectStands, StoreStands, FrameStands, FramesStand, PointStands}
 
@@ -35,7 +35,7 @@ module _ (T U : Text) (cs ds : List Cell)
   object-on (m ∷ ms) [] h = absurd h
   object-on (m ∷ ms) (x ∷ xs) h = (method-on m x (h .0), object-on ms xs (h .1))
 
-  store-on : (os : List Object) (σ : MStore) → StoreStands T cs os σ → StoreStands U ds os σ
+  store-on : (os : List Object) (σ : TreeStore) → StoreStands T cs os σ → StoreStands U ds os σ
   store-on [] [] h = tt
   store-on [] (x ∷ σ) h = absurd h
   store-on (o ∷ os) [] h = absurd h
@@ -56,7 +56,7 @@ module _ (T U : Text) (cs ds : List Cell)
 
 -- more cells
 module _ (T : Text) (cs ds : List Cell) where
-  pub store-cells : (os : List Object) (σ : MStore) → StoreStands T cs os σ → StoreStands T (cs ++ ds) os σ
+  pub store-cells : (os : List Object) (σ : TreeStore) → StoreStands T cs os σ → StoreStands T (cs ++ ds) os σ
   store-cells = store-on T T cs (cs ++ ds) (λ n c h. h) (λ n i r h. h) (λ n i c h. h) (env-more cs ds)
 
   pub frames-cells : (fs : List Frame) (rs : List tree.Frame) → FramesStand T cs fs rs → FramesStand T (cs ++ ds) fs rs
@@ -64,7 +64,7 @@ module _ (T : Text) (cs ds : List Cell) where
 
 -- more tables
 module _ (T U : Text) (cs : List Cell) where
-  pub store-tables : (os : List Object) (σ : MStore) → StoreStands T cs os σ → StoreStands (joined T U) cs os σ
+  pub store-tables : (os : List Object) (σ : TreeStore) → StoreStands T cs os σ → StoreStands (joined T U) cs os σ
   store-tables = store-on T (joined T U) cs cs (stands-more T U) (at-rest-more T U) (at-code-more T U) (λ e vs h. h)
 
   pub point-tables : (f : Frame) (a : Option Value) (fs : List Frame) (S : tree.State) → PointStands T cs f a fs S → PointStands (joined T U) cs f a fs S

@@ -15,7 +15,7 @@ use Rattle.std.specs.declared.result.Result.{Result}
 use Rattle.std.specs.declared.result.Result.the-variants.{Ok, Err}
 use Rattle.calculus.specs.Places.{nth, if-some}
 use Rattle.calculus.specs.Text.{Text}
-use Rattle.calculus.specs.Terms.{Term, var, val, select, update, clone, Closed, Within, past, instVar}
+use Rattle.calculus.specs.Terms.{Term, val, select, update, clone, Closed, Within, instVar}
 use Rattle.calculus.specs.Trees.{Code, accessOp, figureOp, objectOp, Rest, done, selectOp, updateOp, cloneOp, letOp}
 use Rattle.calculus.specs.Standing.{CodeAt, BodiesAt, Stands, AtCode, AtRest}
 use Rattle.calculus.specs.declared.values.Value.{Value}
@@ -37,16 +37,18 @@ use Rattle.machine_model.specs.declared.steps.Due.{Due}
 use Rattle.machine_model.specs.declared.steps.Due.the-variants as due
 use Rattle.machine_model.specs.declared.steps.Redex.the-variants as redex
 use Rattle.machine_model.specs.State.{State}
-use Rattle.machine_model.specs.Reduce.{decided, by-store, labelled, selects-at, Move, located, entering, entering-if, entries-at, acted}
+use Rattle.machine_model.specs.Reduce.{decided, by-store, labelled, selects-at, Move, located, entered, if-ok, entries-at, acted}
+use Rattle.machine_model.specs.Reduce as reduce
 use Rattle.machine_model.specs.Run.{or-stop}
 use Rattle.semantics.specs.Objects.{method-at}
 use Rattle.semantics.specs.Objects as objects
 use Rattle.semantics.specs.Reduction.{Kind, making, selecting, updating, cloning, letting, hole, TakesFigure, select-figure, update-figure, clone-figure, LacksLabel, select-missing, update-missing, FigureTaken, LabelMissing}
-use Rattle.semantics.specs.Machine.{Env, variable, closure, close, MStore, empty, full, β, Transition, β-object, β-select, β-update, β-clone, β-let}
+use Rattle.semantics.specs.Machine.{Env, variable, closure, close, TreeStore, empty, full, β, Transition, β-object, β-select, β-update, β-clone, β-let}
 use Rattle.semantics.specs.Machine as tree
 use Rattle.semantics.specs.Unloading.{unloadCode, unloadRest, unloadClosure, unloadStore, contextOf, current}
 use Rattle.semantics.proofs.Objects.{method-in, object-some, object-none, object-missing, method-some, method-none, map-some}
-use Rattle.semantics.proofs.Simulation.{plug-context, var-past}
+use Rattle.semantics.proofs.Simulation.{plug-context}
+use Rattle.semantics.proofs.Statuses.{variable-none}
 use Rattle.machine_laws.specs.Standing.{EnvStands, ClosureStands, ObjectStands, StoreStands, FramesStand, StateStands, DueStands}
 use Rattle.machine_laws.specs.Reducing.{Ready, adds, enters, alters, kind-of, more, reduced, restored, hinders, unless-hindered, Adds, Enters, RightKind, Reduction, Lost, on-redex, looked-at, Judgement, judged-done, judged-20, judged-21, judged-lost, judged-ready}
 use Rattle.machine_laws.proofs.Growing.{env-more, store-cells, frames-cells}
@@ -63,8 +65,9 @@ adds-by true false s m k o = refl
 adds-by true true s m k o = refl
 
 enters-by : (b₁ b₂ : Bool) (s : State) (m : Meaning) (k : Kind) (v : Value) (e l : ℕ) →
-    entering-if (cond b₁ (cond b₂ (Ok tt) (Err fault.StackFull)) (Err fault.CellsFull)) s m v e l (more k (s .registers .report)) ≡
-    unless-hindered (cond b₁ (cond b₂ None (Some fault.StackFull)) (Some fault.CellsFull)) s m (enters k v e l)
+    let r : Result Unit Fault = cond b₁ (cond b₂ (Ok tt) (Err fault.StackFull)) (Err fault.CellsFull) in
+    _≡_ {A = Move} (record { answer = r; state = if-ok r s (entered s v e l (more k (s .registers .report))); store = m })
+    (unless-hindered (cond b₁ (cond b₂ None (Some fault.StackFull)) (Some fault.CellsFull)) s m (enters k v e l))
 enters-by false b₂ s m k v e l = refl
 enters-by true false s m k v e l = refl
 enters-by true true s m k v e l = refl
@@ -87,7 +90,7 @@ module _ (T : Text) (s : State) (m : Meaning) where
       ap (λ x. located s (with-objects m (if-some x (λ p. added (room-for m (length p)) p (m .objects)) (m .objects))) (more cloning (s .registers .report)) (if-some x (λ p. room-for m (length p)) (Err NoLocation))) h
       ∙ acts-adds cloning o
 
-  acts-enter : (k : Kind) (v : Value) (e l : ℕ) → entering s m v e l (more k (s .registers .report)) ≡ unless-hindered (hinders s m (enters k v e l)) s m (enters k v e l)
+  acts-enter : (k : Kind) (v : Value) (e l : ℕ) → reduce.enters s m v e l (more k (s .registers .report)) ≡ unless-hindered (hinders s m (enters k v e l)) s m (enters k v e l)
   acts-enter k v e l = enters-by (ltb (length (s .cells)) (s .cell-room)) (ltb (length (s .frames)) (s .frame-room)) s m k v e l
 
   acts-put : (l p b : ℕ) (o : Object) (x : Method) → nth (m .objects) l ≡ Some o → nth o p ≡ Some x → Acts (Put l p b) (alters l p (record { list = b; env = s .registers .at .env }))
@@ -104,17 +107,8 @@ lost-at : (vs : Env) (r : Rest) (a : Term) (n : ℕ) → (Closed 0 a → Within 
 lost-at vs r a n h = record { context = contextOf vs r hole; redex = a; is = sym (plug-context vs r hole a); has = h }
 
 -- no object there
-not-there : (σ : MStore) (n : ℕ) → nth σ n ≡ None → n < length (unloadStore σ) → ⊥
+not-there : (σ : TreeStore) (n : ℕ) → nth σ n ≡ None → n < length (unloadStore σ) → ⊥
 not-there σ n e h = object-missing (unloadStore σ) n (object-none unloadClosure σ n e) h
-
-past-free : (vs : Env) (j : ℕ) → nth vs j ≡ None → (i : ℕ) × (past 0 vs j ≡ var i)
-past-free [] j h = (suc 0 + j, refl)
-past-free (v ∷ vs) zero h = let z : _≡_ {A = ℕ} 0 1 = cc in absurd (omega arith)
-past-free (v ∷ vs) (suc j) h = past-free vs j h
-
-variable-free : (vs : Env) (j : ℕ) → variable vs j ≡ None → (i : ℕ) × (instVar 0 vs j ≡ var i)
-variable-free vs zero h = (0, refl)
-variable-free vs (suc j) h = let p = past-free vs j h in (p .0, var-past vs j ∙ p .1)
 
 -- a list from its start
 pub at-start : (T : Text) (n : ℕ) (c : Code) → Stands T n c → AtCode T n 0 c
@@ -131,11 +125,11 @@ pub env-push : (cells : List Cell) (v : Value) (e : ℕ) (vs : Env) → EnvStand
 env-push cells v e vs h = (length cells, e, refl, nth-last cells (record { value = v; parent = e }), env-more cells (record { value = v; parent = e } ∷ []) e vs h)
 
 -- an object without a label, unloaded
-find-none : (σ : MStore) (n l : ℕ) (x : objects.Object (tree.Closure Code)) → nth σ n ≡ Some x → objects.find x l ≡ None → objects.find (map (objects.relabel unloadClosure) x) l ≡ None
+find-none : (σ : TreeStore) (n l : ℕ) (x : objects.Object (tree.Closure Code)) → nth σ n ≡ Some x → objects.find x l ≡ None → objects.find (map (objects.relabel unloadClosure) x) l ≡ None
 find-none σ n l x h g =
     sym (method-in (unloadStore σ) n l (map (objects.relabel unloadClosure) x) (object-some unloadClosure σ n x h)) ∙ method-none unloadClosure σ n l (method-in σ n l x h ∙ g)
 
-module _ (T : Text) (s : State) (m : Meaning) (σ : MStore) (hs : StoreStands T (s .cells) (m .objects) σ) where
+module _ (T : Text) (s : State) (m : Meaning) (σ : TreeStore) (hs : StoreStands T (s .cells) (m .objects) σ) where
   abbrev f : Frame
   f = s .registers .at
 
@@ -247,7 +241,7 @@ module _ (T : Text) (s : State) (m : Meaning) (σ : MStore) (hs : StoreStands T 
 
   unbound : (j : ℕ) (r : Rest) (vs : Env) (rs : List tree.Frame) → variable vs j ≡ None → Lost (length (unloadStore σ)) (current (empty (accessOp j r) vs rs))
   unbound j r vs rs h =
-      let p = variable-free vs j h in
+      let p = variable-none vs j h in
       lost-at vs r (instVar 0 vs j) (length (unloadStore σ)) (subst (λ a. Closed 0 a → Within (length (unloadStore σ)) a → ⊥) (sym (p .1)) (λ c w. omega (arith, c .0, c .1)))
 
   pub judges : (S : tree.State) (d : Due) → StateStands T s S → DueStands T f d S → Judgement T s m S σ (looked-at T m d)

@@ -19,7 +19,7 @@ use Rattle.store.specs.Meaning.{Object, total, place-from, methods-of, with-clo
 use Rattle.machine_model.specs.declared.state.Cell.{Cell}
 use Rattle.semantics.specs.Objects.{Labelled, labelled, find, replace, with-method}
 use Rattle.semantics.specs.Objects as objects
-use Rattle.semantics.specs.Machine.{Env, closure, close, MStore}
+use Rattle.semantics.specs.Machine.{Env, closure, close, TreeStore}
 use Rattle.semantics.specs.Machine as tree
 use Rattle.machine_laws.specs.Standing.{EnvStands, ClosureStands, MethodStands, ObjectStands, StoreStands}
 
@@ -79,7 +79,7 @@ module _ (T : Text) (cells : List Cell) where
     gone : Located None None
     there : (o : Object) (x : TreeObject) → ObjectStands T cells o x → Located (Some o) (Some x)
 
-  pub locates : (os : List Object) (σ : MStore) (n : ℕ) → StoreStands T cells os σ → Located (nth os n) (nth σ n)
+  pub locates : (os : List Object) (σ : TreeStore) (n : ℕ) → StoreStands T cells os σ → Located (nth os n) (nth σ n)
   locates [] [] n h = gone
   locates [] (x ∷ σ) n h = absurd h
   locates (o ∷ os) [] n h = absurd h
@@ -87,19 +87,19 @@ module _ (T : Text) (cells : List Cell) where
   locates (o ∷ os) (x ∷ σ) (suc n) h = locates os σ n (h .1)
 
   -- a store's objects, one more, or one changed
-  pub stands-length : (os : List Object) (σ : MStore) → StoreStands T cells os σ → length os ≡ length σ
+  pub stands-length : (os : List Object) (σ : TreeStore) → StoreStands T cells os σ → length os ≡ length σ
   stands-length [] [] h = refl
   stands-length [] (x ∷ σ) h = absurd h
   stands-length (o ∷ os) [] h = absurd h
   stands-length (o ∷ os) (x ∷ σ) h = ap suc (stands-length os σ (h .1))
 
-  pub stands-push : (os : List Object) (σ : MStore) (o : Object) (x : TreeObject) → StoreStands T cells os σ → ObjectStands T cells o x → StoreStands T cells (os ++ (o ∷ [])) (σ ++ (x ∷ []))
+  pub stands-push : (os : List Object) (σ : TreeStore) (o : Object) (x : TreeObject) → StoreStands T cells os σ → ObjectStands T cells o x → StoreStands T cells (os ++ (o ∷ [])) (σ ++ (x ∷ []))
   stands-push [] [] o x h g = (g, tt)
   stands-push [] (y ∷ σ) o x h g = absurd h
   stands-push (p ∷ os) [] o x h g = absurd h
   stands-push (p ∷ os) (y ∷ σ) o x h g = (h .0, stands-push os σ o x (h .1) g)
 
-  pub stands-with : (os : List Object) (σ : MStore) (n l : ℕ) (x : TreeObject) (o : Object) (g : tree.Closure Code) → StoreStands T cells os σ → nth σ n ≡ Some x →
+  pub stands-with : (os : List Object) (σ : TreeStore) (n l : ℕ) (x : TreeObject) (o : Object) (g : tree.Closure Code) → StoreStands T cells os σ → nth σ n ≡ Some x →
       ObjectStands T cells o (replace x l g) → StoreStands T cells (set os n o) (with-method σ n l g)
   stands-with [] [] n l x o g h e k = tt
   stands-with [] (y ∷ σ) n l x o g h e k = absurd h

@@ -21,7 +21,7 @@ use Rattle.machine_model.specs.State.{State, due, due-at}
 use Rattle.machine_model.specs.Settle.{stepped, filled, silent, settled, slack}
 use Rattle.machine_model.proofs.Settles.{settled-rest, settled-fill, settled-return}
 use Rattle.semantics.specs.Sequences.{ends, also}
-use Rattle.semantics.specs.Machine.{Env, variable, closure, MStore, empty, full, Silent, returning, loading, τ, Transition, τ-return, τ-access, τ-figure}
+use Rattle.semantics.specs.Machine.{Env, variable, closure, TreeStore, empty, full, Silent, returning, loading, τ, Transition, τ-return, τ-access, τ-figure}
 use Rattle.semantics.specs.Machine as tree
 use Rattle.machine_laws.specs.Standing.{EnvStands, FramesStand, PointStands, StateStands, DueStands}
 use Rattle.machine_laws.specs.Settling.{at-point, Settling}
@@ -29,7 +29,7 @@ use Rattle.machine_laws.proofs.Fetching.{env-variable, fetch-done, fetch-selec
 
 module _ (T : Text) (s : State) where
   -- nothing more is due
-  here : (S : tree.State) (σ : MStore) (f : Frame) (a : Option Value) (fs : List Frame) (n : ℕ) (d : Due) → due T (at-point s f a fs n) ≡ d → silent d ≡ false →
+  here : (S : tree.State) (σ : TreeStore) (f : Frame) (a : Option Value) (fs : List Frame) (n : ℕ) (d : Due) → due T (at-point s f a fs n) ≡ d → silent d ≡ false →
       PointStands T (s .cells) f a fs S → DueStands T f d S → Settling T s n S σ (settled T (at-point s f a fs n))
   here S σ f a fs n d e q h g =
       record {
@@ -48,7 +48,7 @@ module _ (T : Text) (s : State) where
       }
 
   -- one silent transition before the others
-  first : (q : Silent) (S S′ : tree.State) (σ : MStore) (n : ℕ) (t t′ : State) → Transition (τ q) S σ S′ σ → t ≡ t′ → Settling T s (n + 1) S′ σ t′ → Settling T s n S σ t
+  first : (q : Silent) (S S′ : tree.State) (σ : TreeStore) (n : ℕ) (t t′ : State) → Transition (τ q) S σ S′ σ → t ≡ t′ → Settling T s (n + 1) S′ σ t′ → Settling T s n S σ t
   first q S S′ σ n t t′ m e g =
       record {
         labels = τ q ∷ g .labels;
@@ -66,7 +66,7 @@ module _ (T : Text) (s : State) where
       }
 
   -- with a full accumulator
-  unwinds : (fs : List Frame) (rs : List tree.Frame) (f : Frame) (v : Value) (n : ℕ) (r : Rest) (vs : Env) (σ : MStore) →
+  unwinds : (fs : List Frame) (rs : List tree.Frame) (f : Frame) (v : Value) (n : ℕ) (r : Rest) (vs : Env) (σ : TreeStore) →
       AtRest T (f .list) (f .next) r → EnvStands (s .cells) (f .env) vs → FramesStand T (s .cells) fs rs →
       Settling T s n (full r vs v rs) σ (settled T (at-point s f (Some v) fs n))
   unwinds [] [] f v n done vs σ h he hw =
@@ -91,20 +91,20 @@ module _ (T : Text) (s : State) where
       here (full (letOp c r) vs v rs) σ f (Some v) fs n (Reduce (redex.Let v (g .0))) (ap (λ y. due-at y (Some v) (s .cells) fs (f .env)) (g .1)) refl (refl, h, he, hw) (g .0, refl, g .2, g .3)
 
   -- a value comes into the accumulator
-  fills : (S : tree.State) (σ : MStore) (f : Frame) (fs : List Frame) (rs : List tree.Frame) (n : ℕ) (v : Value) (r : Rest) (vs : Env) →
+  fills : (S : tree.State) (σ : TreeStore) (f : Frame) (fs : List Frame) (rs : List tree.Frame) (n : ℕ) (v : Value) (r : Rest) (vs : Env) →
       due T (at-point s f None fs n) ≡ Fill v → Transition (τ loading) S σ (full r vs v rs) σ →
       AtRest T (f .list) (f .next + 1) r → EnvStands (s .cells) (f .env) vs → FramesStand T (s .cells) fs rs → Settling T s n S σ (settled T (at-point s f None fs n))
   fills S σ f fs rs n v r vs e m hr he hw =
       first loading S (full r vs v rs) σ n _ (settled T (at-point s (stepped f) (Some v) fs (n + 1))) m (settled-fill T (at-point s f None fs n) v e) (unwinds fs rs (stepped f) v (n + 1) r vs σ hr he hw)
 
-  fills-variable : (x : Option Value) (j : ℕ) (f : Frame) (fs : List Frame) (rs : List tree.Frame) (n : ℕ) (r : Rest) (vs : Env) (σ : MStore) →
+  fills-variable : (x : Option Value) (j : ℕ) (f : Frame) (fs : List Frame) (rs : List tree.Frame) (n : ℕ) (r : Rest) (vs : Env) (σ : TreeStore) →
       variable vs j ≡ x → due T (at-point s f None fs n) ≡ if-some x Fill Astray → AtCode T (f .list) (f .next) (accessOp j r) → AtRest T (f .list) (f .next + 1) r →
       EnvStands (s .cells) (f .env) vs → FramesStand T (s .cells) fs rs → Settling T s n (empty (accessOp j r) vs rs) σ (settled T (at-point s f None fs n))
   fills-variable None j f fs rs n r vs σ hv e h hr he hw = here (empty (accessOp j r) vs rs) σ f None fs n Astray e refl (refl, h, he, hw) (refl, hv)
   fills-variable (Some v) j f fs rs n r vs σ hv e h hr he hw = fills (empty (accessOp j r) vs rs) σ f fs rs n v r vs e (τ-access hv) hr he hw
 
   -- with an empty accumulator
-  loads : (c : Code) (f : Frame) (fs : List Frame) (rs : List tree.Frame) (n : ℕ) (vs : Env) (σ : MStore) →
+  loads : (c : Code) (f : Frame) (fs : List Frame) (rs : List tree.Frame) (n : ℕ) (vs : Env) (σ : TreeStore) →
       AtCode T (f .list) (f .next) c → EnvStands (s .cells) (f .env) vs → FramesStand T (s .cells) fs rs → Settling T s n (empty c vs rs) σ (settled T (at-point s f None fs n))
   loads (accessOp j r) f fs rs n vs σ h he hw =
       let g = fetch-access T (f .list) (f .next) j r h in
@@ -120,7 +120,7 @@ module _ (T : Text) (s : State) where
 abbrev transitions : State → ℕ
 transitions s = s .registers .report .transitions
 
-pub settles : (T : Text) (s : State) (S : tree.State) (σ : MStore) → StateStands T s S → Settling T s (s .registers .report .transitions) S σ (settled T s)
+pub settles : (T : Text) (s : State) (S : tree.State) (σ : TreeStore) → StateStands T s S → Settling T s (s .registers .report .transitions) S σ (settled T s)
 settles T s (empty c vs rs) σ h =
     subst (λ a. Settling T s (transitions s) (empty c vs rs) σ (settled T (at-point s (s .registers .at) a (s .frames) (transitions s)))) (sym (h .0))
     (loads T s c (s .registers .at) (s .frames) rs (transitions s) vs σ (h .1) (h .2) (h .3))

@@ -33,7 +33,7 @@ use Rattle.machine_model.specs.Reduce.{decided, Move, refused, moved, valued, e
 use Rattle.machine_model.specs.Run.{or-stop}
 use Rattle.semantics.specs.Objects as objects
 use Rattle.semantics.specs.Reduction.{Kind, making, selecting, updating, cloning, letting, AtPoint, FigureTaken, LabelMissing}
-use Rattle.semantics.specs.Machine.{MStore, full, β, Transition}
+use Rattle.semantics.specs.Machine.{TreeStore, full, β, Transition}
 use Rattle.semantics.specs.Machine as tree
 use Rattle.semantics.specs.Unloading.{current, unloadStore}
 use Rattle.machine_laws.specs.Standing.{ObjectStands, StoreStands, StateStands, DueStands}
@@ -103,15 +103,15 @@ RightKind (enters k v e l) = Enters k
 RightKind (alters l p c) = Unit {0}
 
 -- what becomes of the store
-abbrev pub StoreAfter : Text → State → Meaning → MStore → Ready → MStore → Type 0
+abbrev pub StoreAfter : Text → State → Meaning → TreeStore → Ready → TreeStore → Type 0
 StoreAfter T s m σ (adds k o) σ′ = (x : objects.Object (tree.Closure Code)) × (σ′ ≡ σ ++ (x ∷ [])) × ObjectStands T (s .cells) o x
 StoreAfter T s m σ (enters k v e l) σ′ = σ′ ≡ σ
 StoreAfter T s m σ (alters l p c) σ′ = (length σ′ ≡ length σ) × (o : Object) × (x : Method) × (nth (m .objects) l ≡ Some o) × (nth o p ≡ Some x)
 
 -- the reduction is the transition of its kind of the machine on trees, to a state and a store for which what it leaves stands
-pub record Reduction (T : Text) (s : State) (m : Meaning) (S : tree.State) (σ : MStore) (r : Ready) : Type 0 where
+pub record Reduction (T : Text) (s : State) (m : Meaning) (S : tree.State) (σ : TreeStore) (r : Ready) : Type 0 where
   pub state : tree.State
-  pub store : MStore
+  pub store : TreeStore
   pub transition : Transition (β (kind-of r)) S σ state store
   pub stands : StateStands T (reduced s m r) state
   pub store-stands : StoreStands T (reduced s m r .cells) (restored m r .objects) store
@@ -130,7 +130,7 @@ abbrev pub looked-at : Text → Meaning → Due → Result Action Stop
 looked-at T m d = on-redex (rest d) (decided T m)
 
 -- how what is looked at stands in the machine on trees, at a state S with a store σ
-pub data Judgement (T : Text) (s : State) (m : Meaning) (S : tree.State) (σ : MStore) : Result Action Stop → Type 0 where
+pub data Judgement (T : Text) (s : State) (m : Meaning) (S : tree.State) (σ : TreeStore) : Result Action Stop → Type 0 where
   judged-done : (vs : tree.Env) (v : Value) → S ≡ full done vs v [] → Judgement T s m S σ (Err (stop.Done v))
   judged-20 : FigureTaken (current S) → Judgement T s m S σ (Err (stop.Refused fault.FigureTaken))
   judged-21 : LabelMissing (unloadStore σ) (current S) → Judgement T s m S σ (Err (stop.Refused fault.LabelMissing))
@@ -142,5 +142,5 @@ pub data Judgement (T : Text) (s : State) (m : Meaning) (S : tree.State) (σ : M
 -- 19 comes only where the term is not closed or not within its store.
 abbrev pub Judges : Type 0
 Judges =
-    (T : Text) (s : State) (m : Meaning) (S : tree.State) (σ : MStore) (d : Due) →
+    (T : Text) (s : State) (m : Meaning) (S : tree.State) (σ : TreeStore) (d : Due) →
     StateStands T s S → DueStands T (s .registers .at) d S → StoreStands T (s .cells) (m .objects) σ → Judgement T s m S σ (looked-at T m d)

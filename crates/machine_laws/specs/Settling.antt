@@ -10,7 +10,7 @@ use Rattle.machine_model.specs.declared.state.Frame.{Frame}
 use Rattle.machine_model.specs.declared.state.Report.{Report}
 use Rattle.machine_model.specs.State.{State, due}
 use Rattle.machine_model.specs.Settle.{settled}
-use Rattle.semantics.specs.Machine.{MStore, Label, Run}
+use Rattle.semantics.specs.Machine.{TreeStore, Label, Run}
 use Rattle.semantics.specs.Machine as tree
 use Rattle.semantics.specs.Counts.{betas}
 use Rattle.machine_laws.specs.Standing.{PointStands, StateStands, DueStands}
@@ -31,7 +31,7 @@ at-point s f a fs n = record {
 -- From a state that stands for S, t is what settling comes to: silent transitions of the machine on trees lead to a state for which
 -- t stands; n transitions were made before, and as many more as those. Nothing else in the machine has changed, and no other
 -- silent transition is due.
-pub record Settling (T : Text) (s : State) (n : ℕ) (S : tree.State) (σ : MStore) (t : State) : Type 0 where
+pub record Settling (T : Text) (s : State) (n : ℕ) (S : tree.State) (σ : TreeStore) (t : State) : Type 0 where
   pub labels : List Label
   pub state : tree.State
   pub run : Run labels S σ state σ
@@ -47,4 +47,4 @@ pub record Settling (T : Text) (s : State) (n : ℕ) (S : tree.State) (σ : MSto
 
 -- the table machine's silent transitions are those of the machine on trees, and as many
 abbrev pub Settles : Type 0
-Settles = (T : Text) (s : State) (S : tree.State) (σ : MStore) → StateStands T s S → Settling T s (s .registers .report .transitions) S σ (settled T s)
+Settles = (T : Text) (s : State) (S : tree.State) (σ : TreeStore) → StateStands T s S → Settling T s (s .registers .report .transitions) S σ (settled T s)

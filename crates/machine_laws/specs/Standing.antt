@@ -19,7 +19,7 @@ use Rattle.machine_model.specs.declared.steps.Due.{Due}
 use Rattle.machine_model.specs.declared.steps.Due.the-variants as due
 use Rattle.machine_model.specs.State.{State}
 use Rattle.semantics.specs.Objects as objects
-use Rattle.semantics.specs.Machine.{Env, variable, closure, MStore, empty, full}
+use Rattle.semantics.specs.Machine.{Env, variable, closure, TreeStore, empty, full}
 use Rattle.semantics.specs.Machine as tree
 
 -- environment e is these values
@@ -40,7 +40,7 @@ ObjectStands T cells (m ∷ ms) [] = ⊥
 ObjectStands T cells (m ∷ ms) (x ∷ xs) = MethodStands T cells m x × ObjectStands T cells ms xs
 
 -- a store's objects
-abbrev pub StoreStands : Text → List Cell → List Object → MStore → Type 0
+abbrev pub StoreStands : Text → List Cell → List Object → TreeStore → Type 0
 StoreStands T cells [] [] = Unit {0}
 StoreStands T cells [] (x ∷ xs) = ⊥
 StoreStands T cells (o ∷ os) [] = ⊥
