@@ -50,7 +50,7 @@ use Rattle.semantics.proofs.Objects.{method-in, object-some, object-none, objec
 use Rattle.semantics.proofs.Simulation.{plug-context}
 use Rattle.semantics.proofs.Statuses.{variable-none}
 use Rattle.machine_laws.specs.Standing.{EnvStands, ClosureStands, ObjectStands, StoreStands, FramesStand, StateStands, DueStands}
-use Rattle.machine_laws.specs.Reducing.{Ready, adds, enters, alters, kind-of, more, reduced, restored, hinders, unless-hindered, Adds, Enters, RightKind, Reduction, Lost, on-redex, looked-at, Judgement, judged-done, judged-20, judged-21, judged-lost, judged-ready}
+use Rattle.machine_laws.specs.Reducing.{Ready, adds, enters, alters, kind-of, more, reduced, restored, hinders, unless-hindered, RightKind, Reduction, Lost, on-redex, looked-at, Judgement, judged-done, judged-20, judged-21, judged-lost, judged-ready}
 use Rattle.machine_laws.proofs.Growing.{env-more, store-cells, frames-cells}
 use Rattle.machine_laws.proofs.Placing.{Placed, nowhere, somewhere, places, Located, gone, there, locates, stands-length, stands-push, stands-with, bodies-below, bodies-close}
 

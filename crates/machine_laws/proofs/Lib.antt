@@ -4,3 +4,6 @@ pub mod Growing
 pub mod Functional
 pub mod Placing
 pub mod Judging
+pub mod Counting
+pub mod Ways
+pub mod Running

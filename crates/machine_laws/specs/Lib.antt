@@ -2,3 +2,4 @@ pub mod Standing
 pub mod Settling
 pub mod Once
 pub mod Reducing
+pub mod Running

@@ -36,6 +36,7 @@ use Rattle.semantics.specs.Reduction.{Kind, making, selecting, updating, clonin
 use Rattle.semantics.specs.Machine.{TreeStore, full, β, Transition}
 use Rattle.semantics.specs.Machine as tree
 use Rattle.semantics.specs.Unloading.{current, unloadStore}
+use Rattle.reference.specs.Answers.{Adds, Opens}
 use Rattle.machine_laws.specs.Standing.{ObjectStands, StoreStands, StateStands, DueStands}
 
 -- A reduction that is looked at, by its shape: an object is added, by an object operation or a clone; a list is entered with a value,
@@ -83,23 +84,9 @@ unless-hindered None s m r = moved (reduced s m r) (restored m r)
 unless-hindered (Some f) s m r = refused s m f
 
 -- an object is added by an object operation or a clone, a list entered by a select or a let
-abbrev pub Adds : Kind → Type 0
-Adds making = Unit {0}
-Adds selecting = ⊥
-Adds updating = ⊥
-Adds cloning = Unit {0}
-Adds letting = ⊥
-
-abbrev pub Enters : Kind → Type 0
-Enters making = ⊥
-Enters selecting = Unit {0}
-Enters updating = ⊥
-Enters cloning = ⊥
-Enters letting = Unit {0}
-
 abbrev pub RightKind : Ready → Type 0
 RightKind (adds k o) = Adds k
-RightKind (enters k v e l) = Enters k
+RightKind (enters k v e l) = Opens k
 RightKind (alters l p c) = Unit {0}
 
 -- what becomes of the store

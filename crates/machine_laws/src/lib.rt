@@ -2,6 +2,7 @@
 ghost use Rattle.machine_laws.specs.Settling.{Settles};
 ghost use Rattle.machine_laws.specs.Once.{StandsOnce};
 ghost use Rattle.machine_laws.specs.Reducing.{Judges};
+ghost use Rattle.machine_laws.specs.Running.{RunsStand, DoneCounts};
 
 /// Over tables that stand for trees, the silent transitions are those of the machine on trees, and as many as are reported.
 pub fn settles() -> u8
@@ -21,6 +22,14 @@ pub fn stands_once() -> u8
 /// by the limits alone, and by 19 only where the term is not closed or not within its store.
 pub fn judges() -> u8
     ensures { λ _. ⌜ Judges ⌝ }
+{
+    0
+}
+
+/// Whatever a run does from a state that stands, the machine on trees does, with as many transitions as are reported; 19 is never met.
+/// With done, the transitions since the start are 1 + 3 × (selects + lets) + updates + clones.
+pub fn runs_stand() -> u8
+    ensures { λ _. ⌜ RunsStand ⌝ ∗ ⌜ DoneCounts ⌝ }
 {
     0
 }

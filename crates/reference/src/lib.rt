@@ -1,0 +1,1 @@
+//! The reference of a session, in the words of the calculus.
