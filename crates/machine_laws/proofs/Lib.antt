@@ -7,3 +7,4 @@ pub mod Judging
 pub mod Counting
 pub mod Ways
 pub mod Running
+pub mod Starting

@@ -3,3 +3,4 @@ pub mod Settling
 pub mod Once
 pub mod Reducing
 pub mod Running
+pub mod Starting

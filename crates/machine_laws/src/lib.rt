@@ -3,6 +3,7 @@ ghost use Rattle.machine_laws.specs.Settling.{Settles};
 ghost use Rattle.machine_laws.specs.Once.{StandsOnce};
 ghost use Rattle.machine_laws.specs.Reducing.{Judges};
 ghost use Rattle.machine_laws.specs.Running.{RunsStand, DoneCounts};
+ghost use Rattle.machine_laws.specs.Starting.{StartsStand};
 
 /// Over tables that stand for trees, the silent transitions are those of the machine on trees, and as many as are reported.
 pub fn settles() -> u8
@@ -30,6 +31,13 @@ pub fn judges() -> u8
 /// With done, the transitions since the start are 1 + 3 × (selects + lets) + updates + clones.
 pub fn runs_stand() -> u8
     ensures { λ _. ⌜ RunsStand ⌝ ∗ ⌜ DoneCounts ⌝ }
+{
+    0
+}
+
+/// A program that is started stands for the initial state of its term's translation, with the givens for its environment.
+pub fn starts_stand() -> u8
+    ensures { λ _. ⌜ StartsStand ⌝ }
 {
     0
 }
