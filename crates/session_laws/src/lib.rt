@@ -1,0 +1,1 @@
+//! The main theorem: a session agrees with the calculus.
