@@ -54,7 +54,8 @@ why-faulty R a σ c w (inl (inl f)) = inl (record { context = R; redex = a; is =
 why-faulty R a σ c w (inl (inr f)) = inr (record { context = R; redex = a; is = refl; has = f })
 why-faulty R a σ c w (inr f) = absurd (f (closed-inside R a c) (within-inside (length σ) R a w))
 
-redex-faulty : (R : Context) (r : Redex) (σ : Store Term) → Closed 0 (plug R (termOf r)) → Within (length σ) (plug R (termOf r)) → Stuck (plug R (termOf r)) σ → Fires r σ → Faulty (plug R (termOf r)) σ
+redex-faulty : (R : Context) (r : Redex) (σ : Store Term) → Closed 0 (plug R (termOf r)) → Within (length σ) (plug R (termOf r)) → Stuck (plug R (termOf r)) σ → Fires r σ →
+    Faulty (plug R (termOf r)) σ
 redex-faulty R r σ c w s (fires k a σ′ rule) = absurd (s .no-reduction k (plug R a) σ′ (reduces R rule))
 redex-faulty R r σ c w s (idles i y) = why-faulty R (termOf r) σ c w y
 

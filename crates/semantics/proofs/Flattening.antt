@@ -115,26 +115,15 @@ lists-deterministic x y S s S′ s′ S″ s″ t u = same (list-transition-step
 
 -- From trees to lists.
 
--- an object more, at the location that is the number of objects
-flat-pushed : (x : Label) (S : ListState) (s : TreeStore) (o : Object (Closure Code)) (p : Ops) (e : Env) (rs : List (Closure Ops)) →
-    ListTransition x S (flatStore s) (state p e (Some (Location (length (flatStore s)))) rs) (flatStore s ++ (map (relabel flatBody) o ∷ [])) →
-    ListTransition x S (flatStore s) (state p e (Some (Location (length s))) rs) (flatStore (s ++ (o ∷ [])))
-flat-pushed x S s o p e rs =
-    subst₂ (λ m u. ListTransition x S (flatStore s) (state p e (Some (Location m)) rs) u) (length-map s (map (relabel flatBody))) (sym (push-maps flatBody s o))
-
 flat-transition : {x : Label} {S : State} {s : TreeStore} {S′ : State} {s′ : TreeStore} → Transition x S s S′ s′ →
     ListTransition x (flatState S) (flatStore s) (flatState S′) (flatStore s′)
 flat-transition τ-return = τ-RETURN
 flat-transition (τ-access h) = τ-ACCESS h
 flat-transition τ-figure = τ-FIGURE
-flat-transition (β-object {bs} {r} {e} {rs} {s}) =
-    flat-pushed (β making) _ s (close e bs) (flatRest r) e _
-    (subst (λ (o : Object (Closure Ops)). ListTransition (β making) (state (op (OBJECT (flatBodies bs)) (flatRest r)) e None (map flatFrame rs)) (flatStore s) (state (flatRest r) e (Some (Location (length (flatStore s)))) (map flatFrame rs)) (flatStore s ++ (o ∷ []))) (sym (flat-close e bs)) β-OBJECT)
+flat-transition (β-object {bs} {r} {e} {rs} {s}) = rw (push-maps flatBody s (close e bs), flat-close e bs, ← length-map s (map (relabel flatBody))) β-OBJECT
 flat-transition (β-select {l} {n} {e′ = e′} {c = c} {s = s} h) = β-SELECT (method-some flatBody s n l (closure c e′) h)
-flat-transition (β-update {l} {n} {c} {r} {e} {rs} {s} {old} h) =
-    subst (λ u. ListTransition (β updating) (flatState (full (updateOp l c r) e (Location n) rs)) (flatStore s) (flatState (full r e (Location n) rs)) u) (sym (with-maps flatBody s n l (closure c e)))
-    (β-UPDATE (method-some flatBody s n l old h))
-flat-transition (β-clone {n} {r} {e} {rs} {s} {o} h) = flat-pushed (β cloning) _ s o (flatRest r) e _ (β-CLONE (object-some flatBody s n o h))
+flat-transition (β-update {l} {n} {c} {e = e} {s = s} {old = old} h) = rw (with-maps flatBody s n l (closure c e)) (β-UPDATE (method-some flatBody s n l old h))
+flat-transition (β-clone {n} {s = s} {o = o} h) = rw (push-maps flatBody s o, ← length-map s (map (relabel flatBody))) (β-CLONE (object-some flatBody s n o h))
 flat-transition β-let = β-LET
 
 -- From lists to trees.
@@ -167,11 +156,11 @@ flat-step (full (selectOp l r) e (Location n) rs) s =
     rw (method-maps flatBody s n l) (if-mapped flatBody (method-at s n l) _ _ (λ f. ap (λ S. goes (β selecting) S (flatStore s)) (flat-entered f (Location n) (closure r e ∷ rs))))
 flat-step (full (updateOp l c r) e (Figure k) rs) s = refl
 flat-step (full (updateOp l c r) e (Location n) rs) s =
-    rw (method-maps flatBody s n l) (if-mapped flatBody (method-at s n l) _ _ (λ f. ap (goes (β updating) (flatState (full r e (Location n) rs))) (sym (with-maps flatBody s n l (closure c e)))))
+    rw (method-maps flatBody s n l) (if-mapped flatBody (method-at s n l) _ _ (λ f. rw (with-maps flatBody s n l (closure c e))))
 flat-step (full (cloneOp r) e (Figure k) rs) s = refl
 flat-step (full (cloneOp r) e (Location n) rs) s =
     rw (map-nth (map (relabel flatBody)) s n)
-    (if-mapped (map (relabel flatBody)) (nth s n) _ _ (λ o. ap₂ (λ m u. goes (β cloning) (state (flatRest r) e (Some (Location m)) (map flatFrame rs)) u) (length-map s (map (relabel flatBody))) (sym (push-maps flatBody s o))))
+    (if-mapped (map (relabel flatBody)) (nth s n) _ _ (λ o. rw (push-maps flatBody s o, length-map s (map (relabel flatBody)))))
 flat-step (full (letOp c r) e v rs) s = refl
 
 -- a transition of a flattened state is one of the tree's
@@ -192,7 +181,7 @@ unflat-step x S s S′ s′ (goes y T u) p q =
 unflat-transition : (x : Label) (S : State) (s : TreeStore) (S′ : ListState) (s′ : ListStore) → ListTransition x (flatState S) (flatStore s) S′ s′ → TreeMove x S s S′ s′
 unflat-transition x S s S′ s′ t = unflat-step x S s S′ s′ (step S s) refl (sym (flat-step S s) ∙ list-transition-steps t)
 
-unflat-run : {xs : List Label} {L : ListState} {l : ListStore} {S′ : ListState} {s′ : ListStore} → ListRun xs L l S′ s′ → (S : State) (s : TreeStore) → flatState S ≡ L → flatStore s ≡ l → TreeRun xs S s S′ s′
+unflat-run : {xs : List Label} {L S′ : ListState} {l s′ : ListStore} → ListRun xs L l S′ s′ → (S : State) (s : TreeStore) → flatState S ≡ L → flatStore s ≡ l → TreeRun xs S s S′ s′
 unflat-run ends S s p q = record { end-state = S; end-store = s; run = ends; states = p; stores = q }
 unflat-run (also {x = x} {a′ = L′} {b′ = l′} t ts) S s p q =
     let m = unflat-transition x S s L′ l′ (subst₂ (λ L l. ListTransition x L l L′ l′) (sym p) (sym q) t) in
@@ -200,8 +189,12 @@ unflat-run (also {x = x} {a′ = L′} {b′ = l′} t ts) S s p q =
     record { end-state = z .end-state; end-store = z .end-store; run = also (m .move) (z .run); states = z .states; stores = z .stores }
 
 pub lists-run-as-trees : ListsRunAsTrees
-lists-run-as-trees xs S s S′ s′ =
-    (λ r. unflat-run r S s refl refl, λ z. subst₂ (λ L l. ListRun xs (flatState S) (flatStore s) L l) (z .states) (z .stores) (mirror Transition ListTransition flatState flatStore (λ x T u T′ u′ t. flat-transition t) (z .run)))
+lists-run-as-trees xs S s S′ s′ = (λ r. unflat-run r S s refl refl, flat-run)
+  where
+    flat-run : TreeRun xs S s S′ s′ → ListRun xs (flatState S) (flatStore s) S′ s′
+    flat-run z =
+        subst₂ (λ L l. ListRun xs (flatState S) (flatStore s) L l) (z .states) (z .stores)
+        (mirror Transition ListTransition flatState flatStore (λ x T u T′ u′ t. flat-transition t) (z .run))
 
 -- The ends.
 

@@ -39,7 +39,8 @@ betas-++ (β k ∷ xs) ys = ap (λ (ks : List Kind). k ∷ ks) (betas-++ xs ys)
 -- The calculus' reductions are made by a run.
 
 -- a run after another
-then-reaches : {S : State} {s : TreeStore} {ks ls : List Kind} {t : Term} {σ : Store Term} {t′ : Term} {σ′ : Store Term} (m : Reaches S s ks t σ) → Reaches (m .state) (m .store) ls t′ σ′ → Reaches S s (ks ++ ls) t′ σ′
+then-reaches : {S : State} {s : TreeStore} {ks ls : List Kind} {t t′ : Term} {σ σ′ : Store Term} (m : Reaches S s ks t σ) → Reaches (m .state) (m .store) ls t′ σ′ →
+    Reaches S s (ks ++ ls) t′ σ′
 then-reaches m z = record {
   labels = m .labels ++ z .labels;
   state = z .state;
@@ -54,9 +55,8 @@ settle-reaches : (S : State) (s : TreeStore) (z : Settles S s) → Reaches S s [
 settle-reaches S s z =
     record { labels = z .labels; state = z .state; store = s; run = z .run; kinds = z .quiet; gives = sym (closes-all-keep (z .closing)); stores = refl }
 
-transition-reaches : (k : Kind) (S : State) (s : TreeStore) (S′ : State) (s′ : TreeStore) (t : Term) (σ : Store Term) → Transition (β k) S s S′ s′ → unload S′ ≡ t → unloadStore s′ ≡ σ →
-    Reaches S s (k ∷ []) t σ
-transition-reaches k S s S′ s′ t σ m p q = record { labels = β k ∷ []; state = S′; store = s′; run = also m ends; kinds = refl; gives = p; stores = q }
+transition-reaches : {k : Kind} {S S′ : State} {s s′ : TreeStore} {t : Term} {σ : Store Term} → Transition (β k) S s S′ s′ → unload S′ ≡ t → unloadStore s′ ≡ σ → Reaches S s (k ∷ []) t σ
+transition-reaches {k} {S′ = S′} {s′ = s′} m p q = record { labels = β k ∷ []; state = S′; store = s′; run = also m ends; kinds = refl; gives = p; stores = q }
 
 reduction-reaches : (k : Kind) (S : State) (s : TreeStore) (t : Term) (σ : Store Term) → Reduces k (unload S) (unloadStore s) t σ → Reaches S s (k ∷ []) t σ
 unfolding settle-reaches
@@ -65,10 +65,9 @@ reduction-reaches k S s t σ p =
     let q : Reduces k (unload (z .state)) (unloadStore s) t σ = subst (λ u. Reduces k u (unloadStore s) t σ) (closes-all-keep (z .closing)) p in
     let (S′, s′, m) = settled-agrees (z .state) s (z .settled) .1 k .1 (t, σ, q) in
     let (_, e, f) = deterministic k k (unload (z .state)) (unloadStore s) (unload S′) (unloadStore s′) t σ (beta-reduces m) q in
-    then-reaches (settle-reaches S s z) (transition-reaches k (z .state) s S′ s′ t σ m e f)
+    then-reaches (settle-reaches S s z) (transition-reaches m e f)
 
-reductions-reach : {ks : List Kind} {t : Term} {σ : Store Term} {t′ : Term} {σ′ : Store Term} → Reductions ks t σ t′ σ′ → (S : State) (s : TreeStore) → unload S ≡ t → unloadStore s ≡ σ →
-    Reaches S s ks t′ σ′
+reductions-reach : {ks : List Kind} {t t′ : Term} {σ σ′ : Store Term} → Reductions ks t σ t′ σ′ → (S : State) (s : TreeStore) → unload S ≡ t → unloadStore s ≡ σ → Reaches S s ks t′ σ′
 reductions-reach ends S s p q = record { labels = []; state = S; store = s; run = ends; kinds = refl; gives = p; stores = q }
 reductions-reach (also {x = k} {a′ = t₁} {b′ = σ₁} r rs) S s p q =
     let m = reduction-reaches k S s t₁ σ₁ (subst₂ (λ u ρ. Reduces k u ρ t₁ σ₁) (sym p) (sym q) r) in

@@ -1,5 +1,5 @@
 -- Each transition of the machine is what it mirrors in the reference.
-use mathlib.Core.Path.{_≡_, refl, ap, sym, _∙_, subst, subst₂}
+use mathlib.Core.Path.{_≡_, refl, ap, _∙_, subst, subst₂}
 use mathlib.Core.Bool.{true, false}
 use mathlib.Core.List.{List, [], _∷_, _++_, map}
 use Prim.Native.Nat.{ℕ, zero, suc, _-_}
@@ -48,37 +48,24 @@ unload-close : (e : Env) (bs : Bodies) → map (relabel unloadClosure) (close e 
 unload-close e noBody = refl
 unload-close e (body l c bs) = ap (λ (o : Object Term). labelled l (unloadCode 1 e c) ∷ o) (unload-close e bs)
 
--- an object more, at the location that is the number of objects
-pushed : (k : Kind) (a : Term) (s : TreeStore) (o : Object (Closure Code)) →
-    Rule k a (unloadStore s) (val (Location (length (unloadStore s)))) (unloadStore s ++ (map (relabel unloadClosure) o ∷ [])) →
-    Rule k a (unloadStore s) (val (Location (length s))) (unloadStore (s ++ (o ∷ [])))
-pushed k a s o = subst₂ (λ m σ. Rule k a (unloadStore s) (val (Location m)) σ) (length-map s (map (relabel unloadClosure))) (sym (push-maps unloadClosure s o))
-
 rule-object : (s : TreeStore) (e : Env) (bs : Bodies) →
     Rule making (object (unloadBodies 0 e bs)) (unloadStore s) (val (Location (length s))) (unloadStore (s ++ (close e bs ∷ [])))
-rule-object s e bs =
-    pushed making (object (unloadBodies 0 e bs)) s (close e bs)
-    (subst (λ (o : Object Term). Rule making (object (unloadBodies 0 e bs)) (unloadStore s) (val (Location (length (unloadStore s)))) (unloadStore s ++ (o ∷ []))) (sym (unload-close e bs)) red-object)
+rule-object s e bs = rw (push-maps unloadClosure s (close e bs), unload-close e bs, ← length-map s (map (relabel unloadClosure))) red-object
 
 rule-select : (s : TreeStore) (n l : ℕ) (c : Code) (e : Env) → method-at s n l ≡ Some (closure c e) →
     Rule selecting (select (val (Location n)) l) (unloadStore s) (unloadCode 0 (Location n ∷ e) c) (unloadStore s)
-rule-select s n l c e h =
-    subst (λ x. Rule selecting (select (val (Location n)) l) (unloadStore s) x (unloadStore s)) (code-more 0 (Location n) e c)
-    (red-select (method-some unloadClosure s n l (closure c e) h))
+rule-select s n l c e h = rw (← code-more 0 (Location n) e c) (red-select (method-some unloadClosure s n l (closure c e) h))
 
 rule-update : (s : TreeStore) (n l : ℕ) (old : Closure Code) (c : Code) (e : Env) → method-at s n l ≡ Some old →
     Rule updating (update (val (Location n)) l (unloadCode 1 e c)) (unloadStore s) (val (Location n)) (unloadStore (with-method s n l (closure c e)))
-rule-update s n l old c e h =
-    subst (λ σ. Rule updating (update (val (Location n)) l (unloadCode 1 e c)) (unloadStore s) (val (Location n)) σ) (sym (with-maps unloadClosure s n l (closure c e)))
-    (red-update (method-some unloadClosure s n l old h))
+rule-update s n l old c e h = rw (with-maps unloadClosure s n l (closure c e)) (red-update (method-some unloadClosure s n l old h))
 
 rule-clone : (s : TreeStore) (n : ℕ) (o : Object (Closure Code)) → nth s n ≡ Some o →
     Rule cloning (clone (val (Location n))) (unloadStore s) (val (Location (length s))) (unloadStore (s ++ (o ∷ [])))
-rule-clone s n o h = pushed cloning (clone (val (Location n))) s o (red-clone (object-some unloadClosure s n o h))
+rule-clone s n o h = rw (push-maps unloadClosure s o, ← length-map s (map (relabel unloadClosure))) (red-clone (object-some unloadClosure s n o h))
 
-rule-let : (s : TreeStore) (v : Value) (c : Code) (e : Env) →
-    Rule letting (bind (val v) (unloadCode 1 e c)) (unloadStore s) (unloadCode 0 (v ∷ e) c) (unloadStore s)
-rule-let s v c e = subst (λ x. Rule letting (bind (val v) (unloadCode 1 e c)) (unloadStore s) x (unloadStore s)) (code-more 0 v e c) red-let
+rule-let : (s : TreeStore) (v : Value) (c : Code) (e : Env) → Rule letting (bind (val v) (unloadCode 1 e c)) (unloadStore s) (unloadCode 0 (v ∷ e) c) (unloadStore s)
+rule-let s v c e = rw (← code-more 0 v e c) red-let
 
 -- a rule in the context of the rest of a list
 stays-rest : (k : Kind) (a : Term) (σ : Store Term) (a′ : Term) (σ′ : Store Term) (e : Env) (r : Rest) (Rs : List Context) → opens k ≡ false → Rule k a σ a′ σ′ →
