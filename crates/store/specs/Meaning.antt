@@ -70,6 +70,9 @@ find-in m l x = at-location m l (λ o. Ok (place-from 0 o x))
 abbrev pub with-objects : Meaning → List Object → Meaning
 with-objects m os = record { objects = os; object-limit = m .object-limit; method-limit = m .method-limit; trial = m .trial }
 
+abbrev pub with-trial : Meaning → Trial → Meaning
+with-trial m t = record { objects = m .objects; object-limit = m .object-limit; method-limit = m .method-limit; trial = t }
+
 -- the answer to the wish for one object more, of n methods: its location
 abbrev pub room-for : Meaning → ℕ → Result ℕ StoreFault
 room-for m n = cond (ltb (length (m .objects)) (m .object-limit)) (cond (leb (total (m .objects) + n) (m .method-limit)) (Ok (length (m .objects))) (Err MethodsFull)) (Err ObjectsFull)
