@@ -65,15 +65,9 @@ fn lists<S: Store>(store: &S) -> Lists {
     ]
 }
 
-/// What comes of some calls on trial.
-#[derive(Clone, Copy)]
-struct Outcome {
-    /// 0, or the number of the fault by which put back was refused.
-    fault: u32,
-    before: Lists,
-    during: Lists,
-    after: Lists,
-}
+/// What comes of some calls on trial: 0 or the number of the fault by which put back was refused, and the lists before, during
+/// and after the trial.
+type Outcome = (u32, [Lists; 3]);
 
 // A layer with one object, then the calls on trial, put back or, if that is refused, kept.
 fn tried<S: Store + Drop>(below: S, calls: &[StoreCall]) -> Result<Outcome, TrialFault> {
@@ -91,12 +85,7 @@ fn tried<S: Store + Drop>(below: S, calls: &[StoreCall]) -> Result<Outcome, Tria
             fault.number()
         }
     };
-    Ok(Outcome {
-        fault,
-        before,
-        during,
-        after: lists(&layer),
-    })
+    Ok((fault, [before, during, lists(&layer)]))
 }
 
 fn tried_on_layer<S: Store + Drop>(below: S, calls: &[StoreCall]) -> Result<Outcome, TrialFault> {
@@ -148,53 +137,51 @@ fn put_back() -> Result<(), Fail> {
         StoreCall::Clone(1),
         StoreCall::Update(0, 1, Closure { list: 75, env: 7 }),
     ];
+    let start = [10, 20, 0, 0, 0, 0, 0, 0];
+    let updated = [7, 20, 0, 0, 0, 0, 0, 0];
+    let changed = [71, 75, 74, 72, 73, 0, 74, 72];
+    let newer = [10, 20, 70, 20, 20, 0, 74, 72];
     for below in EVERY {
-        let few = tried_on(below, &same_place[0..256])?;
-        check_eq(few.fault, 0)?;
-        check_eq(few.before, [10, 20, 0, 0, 0, 0, 0, 0])?;
-        check_eq(few.during, [7, 20, 0, 0, 0, 0, 0, 0])?;
-        check_eq(few.after, few.before)?;
-
-        let many = tried_on(below, &same_place)?;
-        check_eq(many.fault, 30)?;
-        check_eq(many.during, [7, 20, 0, 0, 0, 0, 0, 0])?;
-        check_eq(many.after, many.during)?;
-
-        let newer = tried_on(below, &mixed)?;
-        check_eq(newer.fault, 0)?;
-        check_eq(newer.during, [71, 75, 74, 72, 73, 0, 74, 72])?;
-        check_eq(newer.after, [10, 20, 70, 20, 20, 0, 74, 72])?;
+        check_eq(
+            tried_on(below, &same_place[0..256])?,
+            (0, [start, updated, start]),
+        )?;
+        check_eq(
+            tried_on(below, &same_place)?,
+            (30, [start, updated, updated]),
+        )?;
+        check_eq(tried_on(below, &mixed)?, (0, [start, changed, newer]))?;
     }
     Ok(())
 }
 
-// 0, or the number of the fault; 1 where there is no token to spend.
+// What keep answers to the token of a number: 0, or the number of the fault.
 fn kept<S: Store>(layer: &mut TrialLayer<S>, number: u32) -> u32 {
-    let Some(token) = Token::of(number) else {
-        return 1;
-    };
-    match layer.keep(token) {
-        Ok(()) => 0,
-        Err(fault) => fault.number(),
+    match Token::of(number) {
+        Some(token) => match layer.keep(token) {
+            Ok(()) => 0,
+            Err(fault) => fault.number(),
+        },
+        None => 1,
     }
 }
 
-// The same of put back. A token that is handed back still has its number, and is spent on keep, which is refused as well.
+// What put back answers, and the number of the token that it hands back. That one is spent on keep, which is refused as well.
 fn put_back_by<S: Store>(layer: &mut TrialLayer<S>, number: u32) -> (u32, u32) {
-    let Some(token) = Token::of(number) else {
-        return (1, 1);
-    };
-    match layer.put_back(token) {
-        Ok(()) => (0, number),
-        Err((token, fault)) => {
-            let back = token.number();
-            let _ = layer.keep(token);
-            (fault.number(), back)
-        }
+    match Token::of(number) {
+        Some(token) => match layer.put_back(token) {
+            Ok(()) => (0, 0),
+            Err((token, fault)) => {
+                let back = token.number();
+                let _ = layer.keep(token);
+                (fault.number(), back)
+            }
+        },
+        None => (1, 1),
     }
 }
 
-// The token's number, or that of the fault past a hundred; the token is spent on a layer without trials.
+// The number of the trial that is opened, or that of the fault. The token is spent on another layer.
 fn opened<S: Store, T: Store>(layer: &mut TrialLayer<S>, aside: &mut TrialLayer<T>) -> u32 {
     match layer.open() {
         Ok(token) => {
@@ -202,28 +189,26 @@ fn opened<S: Store, T: Store>(layer: &mut TrialLayer<S>, aside: &mut TrialLayer<
             let _ = aside.keep(token);
             number
         }
-        Err(fault) => 100 + fault.number(),
+        Err(fault) => fault.number(),
     }
 }
 
-fn numbers<S: Store + Drop, T: Store + Drop>(below: S, aside: T) -> Result<(), Fail> {
+fn numbers<S: Store + Drop, T: Store + Drop>(below: S, aside: T) -> [(u32, u32); 8] {
     let mut layer = TrialLayer::new(below);
     let mut aside = TrialLayer::new(aside);
-    check_eq(kept(&mut layer, 0), 1)?;
-    check_eq(kept(&mut layer, 1), 29)?;
-    check_eq(put_back_by(&mut layer, 1), (29, 1))?;
-    check_eq(opened(&mut layer, &mut aside), 1)?;
-    check_eq(opened(&mut layer, &mut aside), 127)?;
-    check_eq(kept(&mut layer, 1), 0)?;
-    check_eq(opened(&mut layer, &mut aside), 2)?;
-    check_eq(kept(&mut layer, 1), 29)?;
-    check_eq(put_back_by(&mut layer, 1), (29, 1))?;
-    check_eq(kept(&mut layer, 3), 29)?;
-    check_eq(put_back_by(&mut layer, 3), (29, 3))?;
-    check_eq(put_back_by(&mut layer, 2), (0, 2))?;
-    check_eq(kept(&mut layer, 2), 29)?;
-    check_eq(put_back_by(&mut layer, 2), (29, 2))?;
-    check_eq(opened(&mut layer, &mut aside), 3)
+    [
+        (kept(&mut layer, 0), kept(&mut layer, 1)),
+        put_back_by(&mut layer, 1),
+        (
+            opened(&mut layer, &mut aside),
+            opened(&mut layer, &mut aside),
+        ),
+        (kept(&mut layer, 1), opened(&mut layer, &mut aside)),
+        (kept(&mut layer, 1), kept(&mut layer, 3)),
+        put_back_by(&mut layer, 1),
+        put_back_by(&mut layer, 3),
+        put_back_by(&mut layer, 2),
+    ]
 }
 
 #[test]
@@ -235,8 +220,19 @@ fn tokens() -> Result<(), Fail> {
     }; 1];
     let mut others = [Span { first: 0, size: 0 }; 1];
     let mut their_methods = methods;
-    numbers(
+    let answers = numbers(
         FlatStore::new(&mut spans, &mut methods),
         FlatStore::new(&mut others, &mut their_methods),
-    )
+    );
+    let expected = [
+        (1, 29),
+        (29, 1),
+        (1, 27),
+        (0, 2),
+        (29, 29),
+        (29, 1),
+        (29, 3),
+        (0, 0),
+    ];
+    check_eq(answers, expected)
 }
