@@ -1,3 +1,4 @@
+pub mod Nth
 pub mod Finds
 pub mod Ways
 pub mod Spans

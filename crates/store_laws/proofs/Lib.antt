@@ -1,2 +1,4 @@
 pub mod Steps
 pub mod Lasting
+pub mod Meant
+pub mod Refusing
