@@ -67,20 +67,31 @@ all-within n (v ∷ vs) h = let p = both (present n v) (all-present n vs) h in (
 refused-not : {A : Type 0} (e : Refusal) → _≡_ {A = Result Unit Refusal} (Err e) (Ok tt) → A
 refused-not e h = let z : _≡_ {A = ℕ} 0 1 = cc in absurd (omega arith)
 
-accepted-by : (g n : ℕ) (s : State) (vs : List Value) (b₁ b₂ b₃ : Bool) → eqb g (length vs) ≡ b₁ → all-present n vs ≡ b₂ →
-    _≡_ {A = Result Unit Refusal} (cond b₁ (cond b₂ (cond b₃ (Ok tt) (Err refusal.CellsShort)) (Err refusal.NoSuchObject)) (Err refusal.WrongGivens)) (Ok tt) → (g ≡ length vs) × (all-present n vs ≡ true)
-accepted-by g n s vs false b₂ b₃ p q h = refused-not refusal.WrongGivens h
-accepted-by g n s vs true false b₃ p q h = refused-not refusal.NoSuchObject h
-accepted-by g n s vs true true b₃ p q h = (eqb-true g (length vs) p, q)
+pub record Accepted (g n : ℕ) (s : State) (vs : List Value) : Type 0 where
+  pub givens-are : g ≡ length vs
+  pub all-there : all-present n vs ≡ true
+  pub room-there : length (s .cells) + length vs ≤ s .cell-room
 
-accepted-for : (x : Option ℕ) (g n : ℕ) (s : State) (vs : List Value) → x ≡ Some g → start-for x n s vs ≡ Ok tt → (g ≡ length vs) × (all-present n vs ≡ true)
+accepted-by : (g n : ℕ) (s : State) (vs : List Value) (b₁ b₂ b₃ : Bool) → eqb g (length vs) ≡ b₁ → all-present n vs ≡ b₂ → leb (length (s .cells) + length vs) (s .cell-room) ≡ b₃ →
+    _≡_ {A = Result Unit Refusal} (cond b₁ (cond b₂ (cond b₃ (Ok tt) (Err refusal.CellsShort)) (Err refusal.NoSuchObject)) (Err refusal.WrongGivens)) (Ok tt) → Accepted g n s vs
+accepted-by g n s vs false b₂ b₃ p q r h = refused-not refusal.WrongGivens h
+accepted-by g n s vs true false b₃ p q r h = refused-not refusal.NoSuchObject h
+accepted-by g n s vs true true false p q r h = refused-not refusal.CellsShort h
+accepted-by g n s vs true true true p q r h = record { givens-are = eqb-true g (length vs) p; all-there = q; room-there = leb-true (length (s .cells) + length vs) (s .cell-room) r }
+
+accepted-for : (x : Option ℕ) (g n : ℕ) (s : State) (vs : List Value) → x ≡ Some g → start-for x n s vs ≡ Ok tt → Accepted g n s vs
 accepted-for None g n s vs e h = refused-not refusal.NoProgram h
-accepted-for (Some k) g n s vs e h = let z : k ≡ g = cc in subst (λ i. (i ≡ length vs) × (all-present n vs ≡ true)) z (accepted-by k n s vs (eqb k (length vs)) (all-present n vs) (leb (length (s .cells) + length vs) (s .cell-room)) refl refl h)
+accepted-for (Some k) g n s vs e h =
+    let z : k ≡ g = cc in
+    subst (λ i. Accepted i n s vs) z (accepted-by k n s vs (eqb k (length vs)) (all-present n vs) (leb (length (s .cells) + length vs) (s .cell-room)) refl refl refl h)
 
-accepted-in : (q : Progress) (T : Text) (s : State) (m : Meaning) (p : ℕ) (vs : List Value) (g : ℕ) → givens-of T p ≡ Some g → start-in q T s m p vs ≡ Ok tt → (g ≡ length vs) × (all-present (length (m .objects)) vs ≡ true)
+accepted-in : (q : Progress) (T : Text) (s : State) (m : Meaning) (p : ℕ) (vs : List Value) (g : ℕ) → givens-of T p ≡ Some g → start-in q T s m p vs ≡ Ok tt → Accepted g (length (m .objects)) s vs
 accepted-in Unused T s m p vs g e h = accepted-for (givens-of T p) g (length (m .objects)) s vs e h
 accepted-in Running T s m p vs g e h = refused-not refusal.Running h
 accepted-in Ended T s m p vs g e h = accepted-for (givens-of T p) g (length (m .objects)) s vs e h
+
+pub accepted : (T : Text) (s : State) (m : Meaning) (p : ℕ) (vs : List Value) (g : ℕ) → givens-of T p ≡ Some g → start-result T s m p vs ≡ Ok tt → Accepted g (length (m .objects)) s vs
+accepted T s m p vs g e h = accepted-in (s .registers .progress) T s m p vs g e h
 
 pub program-givens : (T : Text) (p g : ℕ) (c : Code) → Program T p g c → givens-of T p ≡ Some g
 program-givens T p g c h = ap (λ x. if-some x (λ e. main-mark (e .mark)) None) (h .found) ∙ ap main-mark (h .holds .0)
@@ -90,9 +101,9 @@ program-stands T p g c h = record { entry = h .entry; found = h .found; holds = 
 
 pub starts-stand : StartsStand
 starts-stand T s m p vs A g t σ h hs hc hst hwf e =
-    let a = accepted-in (s .registers .progress) T s m p vs g (program-givens T p g (trans t done) h) e in
+    let a = accepted T s m p vs g (program-givens T p g (trans t done) h) e in
     let n : length (m .objects) ≡ length (unloadStore σ) = stands-length T (s .cells) (m .objects) σ hst ∙ sym (length-map σ _) in
-    let w = starts-well-formed t vs (unloadStore σ) hs (subst (λ i. Closed i t) (a .0) hc) (all-within (length (unloadStore σ)) vs (subst (λ i. all-present i vs ≡ true) n (a .1))) hwf in
+    let w = starts-well-formed t vs (unloadStore σ) hs (subst (λ i. Closed i t) (a .givens-are) hc) (all-within (length (unloadStore σ)) vs (subst (λ i. all-present i vs ≡ true) n (a .all-there))) hwf in
     record {
       standing = record {
         stands = (refl, at-start T p (trans t done) (program-stands T p g (trans t done) h), env-given (s .cells) vs, tt);

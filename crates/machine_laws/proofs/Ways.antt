@@ -69,6 +69,16 @@ way-transitions (goes {s} {m} {xs = xs} z r a p h ρ w) =
     let e : transitions (reduced (resting z) m r) ≡ more (kind-of r) (resting z .registers .report) .transitions = ap (λ (x : Report). x .transitions) (reduced-report (resting z) m r) in
     omega (arith, way-transitions w, e, more-one (kind-of r) (resting z .registers .report), z .counts, length-append (z .labels) (β (kind-of r) ∷ xs))
 
+reduced-progress : (s : State) (m : Meaning) (r : Ready) → reduced s m r .registers .progress ≡ s .registers .progress
+reduced-progress s m (adds k o) = refl
+reduced-progress s m (enters k v e l) = refl
+reduced-progress s m (alters l p c) = refl
+
+pub way-progress : {T : Text} {s : State} {m : Meaning} {S : tree.State} {σ : TreeStore} {xs : List Label} {ks : List Kind} {s′ : State} {m′ : Meaning} {S′ : tree.State} {σ′ : TreeStore} →
+    Way T s m S σ xs ks s′ m′ S′ σ′ → s′ .registers .progress ≡ s .registers .progress
+way-progress (rests z) = refl
+way-progress (goes {m = m} z r a p h ρ w) = way-progress w ∙ reduced-progress (resting z) m r
+
 -- the counts since the start, over what is silent and over a reduction
 pub since-settled : {T : Text} {s : State} {S : tree.State} {σ : TreeStore} {t : State} (A : ℕ) (ks : List Kind) (z : Settling T s (transitions s) S σ t) → Since A ks s S → Since A ks (resting z) (z .state)
 since-settled {s = s} {S} A ks z h =

@@ -1,0 +1,5 @@
+pub mod Sizes
+pub mod Trialing
+pub mod Following
+pub mod Compiling
+pub mod Calling

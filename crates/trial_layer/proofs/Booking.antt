@@ -34,7 +34,7 @@ use Rattle.trial_layer.specs.Trials.{undo}
 use Rattle.trial_layer.proofs.Entries.{never, nth-below, nth-front, nth-set}
 use Rattle.trial_layer.proofs.Undoing.{undo-front, undo-put}
 
-placed-front : (os new : List Object) (notes : List OldMethod) → AllPlaced os notes → AllPlaced (os ++ new) notes
+pub placed-front : (os new : List Object) (notes : List OldMethod) → AllPlaced os notes → AllPlaced (os ++ new) notes
 placed-front os new [] h = tt
 placed-front os new (n ∷ notes) h = ((h .0 .0, h .0 .1 ∙ sym (nth-front os new (n .location) (nth-below os (n .location) (h .0 .0) (h .0 .1))), h .0 .2), placed-front os new notes (h .1))
 
@@ -53,7 +53,7 @@ module _ (o q : Object) (same : length q ≡ length o) where
       let z = sized os l (n .location) (k .0 .0) h (k .0 .1) in
       ((z .0, z .1, omega (arith, z .2, k .0 .2)), placed-set os l h notes (k .1))
 
-placed-push : (os : List Object) (notes : List OldMethod) (n : OldMethod) → AllPlaced os notes → Placed os n → AllPlaced os (notes ++ n ∷ [])
+pub placed-push : (os : List Object) (notes : List OldMethod) (n : OldMethod) → AllPlaced os notes → Placed os n → AllPlaced os (notes ++ n ∷ [])
 placed-push os [] n h k = (k, tt)
 placed-push os (x ∷ notes) n h k = (h .0, placed-push os notes n (h .1) k)
 
