@@ -1,9 +1,8 @@
 -- Counting reductions.
-use mathlib.Core.Path.{_≡_, refl, ap, sym, _∙_, subst}
+use mathlib.Core.Path.{_≡_, refl}
 use mathlib.Core.List.{List, [], _∷_, _++_}
-use Prim.Native.Nat.{ℕ, zero, suc, _+_, _*_, _≤_}
+use Prim.Native.Nat.{ℕ, _+_}
 use native.Mathlib.Omega.{arith}
-use lib.ListN.{length, length-append}
 use Rattle.machine_model.specs.declared.state.Report.{Report}
 use Rattle.semantics.specs.Reduction.{Kind, making, selecting, updating, cloning, letting}
 use Rattle.semantics.specs.Counts.{count, cost}

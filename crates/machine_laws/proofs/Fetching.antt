@@ -1,25 +1,21 @@
 -- What the next operation of a list is, where the list stands for a tree, and what a variable's value is.
-use mathlib.Core.Path.{_≡_, refl, ap, sym, _∙_, subst}
-use mathlib.Core.Bool.{true, false, cond}
+use mathlib.Core.Path.{_≡_, refl, ap, _∙_, subst}
 use mathlib.Core.List.{List, [], _∷_}
-use Prim.Native.Nat.{ℕ, zero, suc, _+_, _-_, _≤_, _<_}
+use Prim.Native.Nat.{ℕ, zero, suc, _+_, _≤_}
 use native.Mathlib.Omega.{arith}
 use native.Mathlib.Numerals.{sub-one}
-use lib.Dec.{ltb, eqb}
 use lib.IntN.{ℤ}
 use borrow.Author.Tests.{eq-eqb, ne-eqb, lt-ltb}
 use Rattle.std.proofs.shelf.Tests.{cond-true, cond-false, le-ltb}
-use Rattle.std.specs.declared.option.Option.{Option}
 use Rattle.std.specs.declared.option.Option.the-variants.{Some, None}
 use Rattle.calculus.specs.Places.{nth, if-some}
 use Rattle.calculus.specs.Text.{Text}
 use Rattle.calculus.specs.Trees.{Code, accessOp, figureOp, objectOp, Rest, done, selectOp, updateOp, cloneOp, letOp, Bodies}
-use Rattle.calculus.specs.Standing.{CodeAt, RestAt, BodiesAt, Stands, AtCode, AtRest}
+use Rattle.calculus.specs.Standing.{RestAt, BodiesAt, Stands, AtCode, AtRest}
 use Rattle.calculus.specs.declared.code.ListEntry.{ListEntry}
 use Rattle.calculus.specs.declared.code.Operation.{Operation}
 use Rattle.calculus.specs.declared.code.Operation.the-variants as op
 use Rattle.machine_model.specs.declared.state.Cell.{Cell}
-use Rattle.machine_model.specs.declared.steps.Fetched.{Fetched}
 use Rattle.machine_model.specs.declared.steps.Fetched.the-variants.{Found, Ended, Outside}
 use Rattle.machine_model.specs.State.{fetched-from, fetched, cell-of, walked, variable}
 use Rattle.semantics.specs.Machine.{Env}

@@ -1,10 +1,10 @@
 -- What a list, an environment, an object, a store or a machine stands for is one thing.
 use mathlib.Core.Path.{_≡_, refl, ap, ap₂, sym, _∙_, subst, subst₂}
 use mathlib.Core.List.{List, [], _∷_}
-use Prim.Native.Nat.{ℕ, zero, suc, _+_, _≤_, _<_}
+use Prim.Native.Nat.{ℕ, suc, _+_}
 use native.Mathlib.Omega.{arith}
 use Rattle.std.specs.declared.option.Option.{Option}
-use Rattle.std.specs.declared.option.Option.the-variants.{Some, None}
+use Rattle.std.specs.declared.option.Option.the-variants.{Some}
 use Rattle.calculus.specs.Places.{nth}
 use Rattle.calculus.specs.Text.{Text}
 use Rattle.calculus.specs.Trees.{Code, accessOp, figureOp, objectOp, Rest, done, selectOp, updateOp, cloneOp, letOp, Bodies, noBody, body}
@@ -20,7 +20,7 @@ use Rattle.machine_model.specs.State.{State}
 use Rattle.semantics.specs.Objects as objects
 use Rattle.semantics.specs.Machine.{Env, closure, TreeStore, empty, full}
 use Rattle.semantics.specs.Machine as tree
-use Rattle.machine_laws.specs.Standing.{EnvStands, ClosureStands, MethodStands, ObjectStands, StoreStands, FrameStands, FramesStand, PointStands, StateStands}
+use Rattle.machine_laws.specs.Standing.{EnvStands, ClosureStands, ObjectStands, StoreStands, FramesStand, PointStands}
 use Rattle.machine_laws.specs.Once.{StandsOnce}
 use Rattle.machine_laws.proofs.Fetching.{rest-up}
 

@@ -1,5 +1,4 @@
 -- What stands, stands when cells or tables are appended.
-use mathlib.Core.Path.{_≡_}
 use mathlib.Core.List.{List, [], _∷_, _++_}
 use Prim.Native.Nat.{ℕ}
 use Rattle.std.specs.declared.option.Option.{Option}

@@ -1,12 +1,11 @@
 -- The reductions of the table machine are those of the machine on trees.
-use mathlib.Core.Path.{_≡_, refl, ap, sym, _∙_, subst, subst₂}
+use mathlib.Core.Path.{_≡_, refl, ap, sym, _∙_, subst}
 use mathlib.Core.Bool.{Bool, true, false, cond}
 use mathlib.Core.List.{List, [], _∷_, _++_, map}
-use Prim.Native.Nat.{ℕ, zero, suc, _+_, _≤_, _<_}
+use Prim.Native.Nat.{ℕ, suc, _+_, _<_}
 use native.Mathlib.Omega.{arith}
 use lib.Dec.{ltb, leb}
-use lib.IntN.{ℤ}
-use lib.ListN.{length, length-map, set, take, drop}
+use lib.ListN.{length, length-map, set}
 use borrow.Author.Tests.{le-leb}
 use Rattle.std.proofs.shelf.Tests.{cond-true}
 use Rattle.std.specs.declared.option.Option.{Option}
@@ -23,34 +22,31 @@ use Rattle.calculus.specs.declared.values.Value.the-variants.{Figure, Location}
 use Rattle.store.specs.declared.closures.Closure.{Closure}
 use Rattle.store.specs.declared.closures.Method.{Method}
 use Rattle.store.specs.declared.faults.StoreFault.{StoreFault}
-use Rattle.store.specs.declared.faults.StoreFault.the-variants.{ObjectsFull, MethodsFull, NoLocation, NoPlace}
-use Rattle.store.specs.Meaning.{Meaning, Object, total, place-from, with-objects, room-for, added, methods-of, with-closure, updated, put-closure}
+use Rattle.store.specs.declared.faults.StoreFault.the-variants.{ObjectsFull, MethodsFull, NoLocation}
+use Rattle.store.specs.Meaning.{Meaning, Object, total, place-from, with-objects, room-for, added, methods-of, with-closure, put-closure}
 use Rattle.machine_model.specs.declared.answers.Fault.{Fault}
 use Rattle.machine_model.specs.declared.answers.Fault.the-variants as fault
-use Rattle.machine_model.specs.declared.answers.Stop.the-variants as stop
 use Rattle.machine_model.specs.declared.state.Cell.{Cell}
 use Rattle.machine_model.specs.declared.state.Frame.{Frame}
-use Rattle.machine_model.specs.declared.state.Report.{Report}
 use Rattle.machine_model.specs.declared.steps.Action.{Action}
 use Rattle.machine_model.specs.declared.steps.Action.the-variants.{Make, Call, Put, Copied, Bind}
 use Rattle.machine_model.specs.declared.steps.Due.{Due}
 use Rattle.machine_model.specs.declared.steps.Due.the-variants as due
 use Rattle.machine_model.specs.declared.steps.Redex.the-variants as redex
 use Rattle.machine_model.specs.State.{State}
-use Rattle.machine_model.specs.Reduce.{decided, by-store, labelled, selects-at, Move, located, entered, if-ok, entries-at, acted}
+use Rattle.machine_model.specs.Reduce.{by-store, labelled, selects-at, Move, located, entered, if-ok, entries-at, acted}
 use Rattle.machine_model.specs.Reduce as reduce
 use Rattle.machine_model.specs.Run.{or-stop}
-use Rattle.semantics.specs.Objects.{method-at}
 use Rattle.semantics.specs.Objects as objects
-use Rattle.semantics.specs.Reduction.{Kind, making, selecting, updating, cloning, letting, hole, TakesFigure, select-figure, update-figure, clone-figure, LacksLabel, select-missing, update-missing, FigureTaken, LabelMissing}
+use Rattle.semantics.specs.Reduction.{Kind, making, selecting, cloning, letting, hole, TakesFigure, select-figure, update-figure, clone-figure, LacksLabel, select-missing, update-missing, FigureTaken, LabelMissing}
 use Rattle.semantics.specs.Machine.{Env, variable, closure, close, TreeStore, empty, full, β, Transition, β-object, β-select, β-update, β-clone, β-let}
 use Rattle.semantics.specs.Machine as tree
 use Rattle.semantics.specs.Unloading.{unloadCode, unloadRest, unloadClosure, unloadStore, contextOf, current}
-use Rattle.semantics.proofs.Objects.{method-in, object-some, object-none, object-missing, method-some, method-none, map-some}
+use Rattle.semantics.proofs.Objects.{method-in, object-some, object-none, object-missing, method-none}
 use Rattle.semantics.proofs.Simulation.{plug-context}
 use Rattle.semantics.proofs.Statuses.{variable-none}
-use Rattle.machine_laws.specs.Standing.{EnvStands, ClosureStands, ObjectStands, StoreStands, FramesStand, StateStands, DueStands}
-use Rattle.machine_laws.specs.Reducing.{Ready, adds, enters, alters, kind-of, more, reduced, restored, hinders, unless-hindered, RightKind, Reduction, Lost, on-redex, looked-at, Judgement, judged-done, judged-20, judged-21, judged-lost, judged-ready}
+use Rattle.machine_laws.specs.Standing.{EnvStands, ObjectStands, StoreStands, FramesStand, StateStands, DueStands}
+use Rattle.machine_laws.specs.Reducing.{Ready, adds, enters, alters, more, hinders, unless-hindered, Reduction, Lost, looked-at, Judgement, judged-done, judged-20, judged-21, judged-lost, judged-ready}
 use Rattle.machine_laws.proofs.Growing.{env-more, store-cells, frames-cells}
 use Rattle.machine_laws.proofs.Placing.{Placed, nowhere, somewhere, places, Located, gone, there, locates, stands-length, stands-push, stands-with, bodies-below, bodies-close}
 

@@ -5,7 +5,7 @@ use mathlib.Core.List.{List, [], _∷_, _++_}
 use Prim.Native.Nat.{ℕ, zero, suc, _+_, _≤_}
 use native.Mathlib.Omega.{arith}
 use lib.Dec.{eqb}
-use lib.ListN.{length, set, take, drop, length-set}
+use lib.ListN.{length, set, take, drop}
 use Rattle.std.specs.declared.option.Option.{Option}
 use Rattle.std.specs.declared.option.Option.the-variants.{Some, None}
 use Rattle.calculus.specs.Places.{nth}
@@ -15,9 +15,9 @@ use Rattle.calculus.specs.Standing.{BodiesAt}
 use Rattle.calculus.specs.declared.code.MethodEntry.{MethodEntry}
 use Rattle.store.specs.declared.closures.Closure.{Closure}
 use Rattle.store.specs.declared.closures.Method.{Method}
-use Rattle.store.specs.Meaning.{Object, total, place-from, methods-of, with-closure}
+use Rattle.store.specs.Meaning.{Object, place-from, methods-of, with-closure}
 use Rattle.machine_model.specs.declared.state.Cell.{Cell}
-use Rattle.semantics.specs.Objects.{Labelled, labelled, find, replace, with-method}
+use Rattle.semantics.specs.Objects.{labelled, find, replace, with-method}
 use Rattle.semantics.specs.Objects as objects
 use Rattle.semantics.specs.Machine.{Env, closure, close, TreeStore}
 use Rattle.semantics.specs.Machine as tree

@@ -1,8 +1,8 @@
 -- Whole runs of the table machine are runs of the machine on trees.
 use mathlib.Core.Path.{_≡_, refl, ap, sym, _∙_, subst}
 use mathlib.Core.Bool.{Bool, true, false, cond}
-use mathlib.Core.List.{List, [], _∷_, _++_, map}
-use Prim.Native.Nat.{ℕ, zero, suc, _+_, _*_, _≤_, _<_}
+use mathlib.Core.List.{List, [], _∷_, map}
+use Prim.Native.Nat.{ℕ, zero, suc, _+_, _<_}
 use native.Mathlib.Omega.{arith}
 use lib.Dec.{eqb}
 use lib.ListN.{length}
@@ -34,10 +34,9 @@ use Rattle.semantics.specs.Machine as tree
 use Rattle.semantics.specs.Unloading.{unloadFrame, stack, current, unload, unloadStore}
 use Rattle.semantics.proofs.Faults.{closed-inside, within-inside}
 use Rattle.reference.specs.Reports.{Finished}
-use Rattle.machine_laws.specs.Standing.{StateStands}
 use Rattle.machine_laws.specs.Settling.{Settling}
 use Rattle.machine_laws.specs.Reducing.{Ready, kind-of, reduced, restored, hinders, unless-hindered, RightKind, Reduction, Lost, on-redex, looked-at, Judgement, judged-done, judged-20, judged-21, judged-lost, judged-ready}
-use Rattle.machine_laws.specs.Running.{transitions, resting, Way, rests, goes, Stopped, at-value, at-figure, at-label, at-pause, at-allowance, at-limit, Since, Standing, Runs, RunsStand}
+use Rattle.machine_laws.specs.Running.{transitions, resting, Way, rests, goes, Stopped, at-value, at-figure, at-label, at-pause, at-allowance, at-limit, Since, Standing, RunsStand}
 use Rattle.machine_laws.proofs.Silent.{settles}
 use Rattle.machine_laws.proofs.Judging.{judges}
 use Rattle.machine_laws.proofs.Ways.{way-run, way-kinds, way-stands, way-store, run-keeps, way-transitions, way-since}

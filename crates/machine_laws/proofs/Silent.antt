@@ -2,9 +2,8 @@
 use mathlib.Core.Path.{_≡_, refl, ap, sym, _∙_, subst}
 use mathlib.Core.Bool.{false}
 use mathlib.Core.List.{List, [], _∷_}
-use Prim.Native.Nat.{ℕ, zero, suc, _+_}
+use Prim.Native.Nat.{ℕ, _+_}
 use native.Mathlib.Omega.{arith}
-use lib.ListN.{length}
 use Rattle.std.specs.declared.option.Option.{Option}
 use Rattle.std.specs.declared.option.Option.the-variants.{Some, None}
 use Rattle.calculus.specs.Places.{if-some}
@@ -15,10 +14,10 @@ use Rattle.calculus.specs.declared.values.Value.{Value}
 use Rattle.calculus.specs.declared.values.Value.the-variants as value
 use Rattle.machine_model.specs.declared.state.Frame.{Frame}
 use Rattle.machine_model.specs.declared.steps.Due.{Due}
-use Rattle.machine_model.specs.declared.steps.Due.the-variants.{Fill, Return, Done, Astray, Reduce}
+use Rattle.machine_model.specs.declared.steps.Due.the-variants.{Fill, Done, Astray, Reduce}
 use Rattle.machine_model.specs.declared.steps.Redex.the-variants as redex
 use Rattle.machine_model.specs.State.{State, due, due-at}
-use Rattle.machine_model.specs.Settle.{stepped, filled, silent, settled, slack}
+use Rattle.machine_model.specs.Settle.{stepped, silent, settled, slack}
 use Rattle.machine_model.proofs.Settles.{settled-rest, settled-fill, settled-return}
 use Rattle.semantics.specs.Sequences.{ends, also}
 use Rattle.semantics.specs.Machine.{Env, variable, closure, TreeStore, empty, full, Silent, returning, loading, τ, Transition, τ-return, τ-access, τ-figure}

@@ -1,10 +1,10 @@
 -- The start of a program.
 use mathlib.Core.Path.{_≡_, refl, ap, sym, _∙_, subst}
 use mathlib.Core.Bool.{Bool, true, false, cond, _&&_}
-use mathlib.Core.List.{List, [], _∷_, _++_}
-use Prim.Native.Nat.{ℕ, zero, suc, _+_, _≤_, _<_}
+use mathlib.Core.List.{List, [], _∷_}
+use Prim.Native.Nat.{ℕ, _+_, _≤_}
 use native.Mathlib.Omega.{arith}
-use lib.Dec.{eqb, leb, ltb}
+use lib.Dec.{eqb, leb}
 use lib.ListN.{length, length-map, length-append}
 use borrow.Author.Tests.{eqb-true, leb-true, ltb-true}
 use Rattle.std.specs.declared.option.Option.{Option}
@@ -13,7 +13,7 @@ use Rattle.std.specs.declared.result.Result.{Result}
 use Rattle.std.specs.declared.result.Result.the-variants.{Ok, Err}
 use Rattle.calculus.specs.Places.{if-some}
 use Rattle.calculus.specs.Text.{Text}
-use Rattle.calculus.specs.Terms.{Term, val, Static, Closed, Within, inst}
+use Rattle.calculus.specs.Terms.{val, Closed, Within}
 use Rattle.calculus.specs.Trees.{Code, trans, done}
 use Rattle.calculus.specs.Standing.{Stands, Program}
 use Rattle.calculus.specs.declared.refusals.Refusal.{Refusal}
@@ -25,9 +25,9 @@ use Rattle.machine_model.specs.declared.state.Cell.{Cell}
 use Rattle.machine_model.specs.declared.state.Progress.{Progress}
 use Rattle.machine_model.specs.declared.state.Progress.the-variants.{Unused, Running, Ended}
 use Rattle.machine_model.specs.State.{State}
-use Rattle.machine_model.specs.Start.{cells-with, env-with, main-mark, givens-of, present, all-present, start-for, start-in, start-result, begun}
-use Rattle.semantics.specs.Reduction.{WellFormed, WellFormedStore, ValuesWithin}
-use Rattle.semantics.specs.Machine.{Env, TreeStore, initial}
+use Rattle.machine_model.specs.Start.{cells-with, env-with, main-mark, givens-of, present, all-present, start-for, start-in, start-result}
+use Rattle.semantics.specs.Reduction.{WellFormed, ValuesWithin}
+use Rattle.semantics.specs.Machine.{TreeStore}
 use Rattle.semantics.specs.Unloading.{unloadStore}
 use Rattle.semantics.proofs.Translating.{unload-trans}
 use Rattle.semantics.proofs.WellFormed.{starts-well-formed}

@@ -1,16 +1,13 @@
 -- What holds along a way.
 use mathlib.Core.Path.{_≡_, refl, ap, ap₂, sym, _∙_, subst}
 use mathlib.Core.List.{List, [], _∷_, _++_, append-assoc, append-nil}
-use Prim.Native.Nat.{ℕ, zero, suc, _+_, _-_, _*_, _≤_, _<_}
+use Prim.Native.Nat.{ℕ, _+_, _<_}
 use native.Mathlib.Omega.{arith}
 use lib.ListN.{length, length-append}
-use Rattle.std.specs.declared.option.Option.the-variants.{Some, None}
 use Rattle.calculus.specs.Text.{Text}
-use Rattle.calculus.specs.Terms.{Term, Closed, Within}
 use Rattle.store.specs.Meaning.{Meaning}
 use Rattle.machine_model.specs.declared.state.Report.{Report}
 use Rattle.machine_model.specs.State.{State}
-use Rattle.machine_model.specs.Settle.{settled}
 use Rattle.semantics.specs.Sequences.{ends, also}
 use Rattle.semantics.specs.Reduction.{Kind, WellFormed}
 use Rattle.semantics.specs.Machine.{TreeStore, Label, β, Transition, Run}
@@ -24,7 +21,7 @@ use Rattle.semantics.proofs.Counting.{run-cost}
 use Rattle.reference.specs.Reports.{Reports}
 use Rattle.machine_laws.specs.Standing.{StoreStands, StateStands}
 use Rattle.machine_laws.specs.Settling.{Settling}
-use Rattle.machine_laws.specs.Reducing.{Ready, adds, enters, alters, kind-of, more, reduced, restored, Reduction}
+use Rattle.machine_laws.specs.Reducing.{Ready, adds, enters, alters, kind-of, more, reduced, Reduction}
 use Rattle.machine_laws.specs.Running.{transitions, resting, Way, rests, goes, Since}
 use Rattle.machine_laws.proofs.Counting.{cost-++, reports-on, more-one, reports-passed}
 

@@ -6,7 +6,7 @@ use Rattle.std.specs.declared.option.Option.{Option}
 use Rattle.std.specs.declared.option.Option.the-variants.{Some, None}
 use Rattle.calculus.specs.Places.{nth}
 use Rattle.calculus.specs.Text.{Text}
-use Rattle.calculus.specs.Trees.{Code, accessOp, figureOp, objectOp, Rest, done, selectOp, updateOp, cloneOp, letOp}
+use Rattle.calculus.specs.Trees.{Code, accessOp, figureOp, objectOp, done, selectOp, updateOp, cloneOp, letOp}
 use Rattle.calculus.specs.Standing.{BodiesAt, Stands, AtCode, AtRest}
 use Rattle.calculus.specs.declared.values.Value.{Value}
 use Rattle.store.specs.declared.closures.Closure.{Closure}

@@ -1,10 +1,8 @@
 -- The start of a program.
 use mathlib.Core.Path.{_≡_}
-use mathlib.Core.Bool.{true}
 use mathlib.Core.List.{List, []}
-use Prim.Native.Nat.{ℕ, _+_, _≤_}
+use Prim.Native.Nat.{ℕ}
 use lib.ListN.{length}
-use Rattle.std.specs.declared.option.Option.the-variants.{Some}
 use Rattle.std.specs.declared.result.Result.the-variants.{Ok}
 use Rattle.calculus.specs.Text.{Text}
 use Rattle.calculus.specs.Terms.{Term, Static, Closed}
@@ -13,7 +11,7 @@ use Rattle.calculus.specs.Standing.{Program}
 use Rattle.calculus.specs.declared.values.Value.{Value}
 use Rattle.store.specs.Meaning.{Meaning}
 use Rattle.machine_model.specs.State.{State}
-use Rattle.machine_model.specs.Start.{givens-of, all-present, start-result, begun}
+use Rattle.machine_model.specs.Start.{start-result, begun}
 use Rattle.semantics.specs.Reduction.{WellFormedStore}
 use Rattle.semantics.specs.Machine.{TreeStore, initial}
 use Rattle.semantics.specs.Unloading.{unloadStore}

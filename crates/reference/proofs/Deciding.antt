@@ -5,11 +5,11 @@ use mathlib.Core.List.{List, [], _∷_, _++_}
 use Prim.Native.Nat.{ℕ, zero, suc, _+_, _≤_, _<_}
 use native.Mathlib.Omega.{arith}
 use borrow.Author.Tests.{lt-ltb, le-ltb, le-leb, lt-leb, eq-eqb, ne-eqb}
-use lib.Dec.{eqb, ltb, leb}
+use lib.Dec.{eqb}
 use lib.ListN.{length, length-append}
 use Rattle.std.specs.declared.option.Option.{Option}
 use Rattle.std.specs.declared.option.Option.the-variants.{Some, None}
-use Rattle.calculus.specs.Terms.{Term, val, select, update, clone}
+use Rattle.calculus.specs.Terms.{Term, val}
 use Rattle.calculus.specs.declared.values.Value.{Value}
 use Rattle.calculus.specs.declared.values.Value.the-variants.{Figure, Location}
 use Rattle.store.specs.declared.faults.StoreFault.the-variants.{ObjectsFull, MethodsFull}
@@ -19,17 +19,17 @@ use Rattle.machine_model.specs.declared.answers.Fault.the-variants as fault
 use Rattle.machine_model.specs.declared.answers.RunAnswer.{RunAnswer}
 use Rattle.machine_model.specs.declared.answers.RunAnswer.the-variants as run
 use Rattle.machine_model.specs.declared.state.Progress.{Progress}
-use Rattle.machine_model.specs.declared.state.Progress.the-variants.{Unused, Running, Ended}
-use Rattle.semantics.specs.Objects.{Store, Object, labelled, find, replace, with-method}
+use Rattle.machine_model.specs.declared.state.Progress.the-variants.{Running, Ended}
+use Rattle.semantics.specs.Objects.{Store, Object, labelled, replace, with-method}
 use Rattle.semantics.specs.Sequences.{ends, also}
 use Rattle.semantics.specs.Reduction.{Kind, making, selecting, updating, cloning, letting, Context, plug, methods, Rule, red-object, red-select, red-update, red-clone, red-let, Stuck, Reductions, TakesFigure, select-figure, update-figure, clone-figure, LacksLabel, select-missing, update-missing}
-use Rattle.semantics.specs.Redexes.{Redex, varRedex, objectRedex, selectRedex, updateRedex, cloneRedex, letRedex, termOf, Decomposition, value, at, decompose, Contraction, idle, to, contract}
-use Rattle.semantics.specs.Frames.{Framed, framed, plugAll, waiting, opens, FramedReduces, stays, enters, Closes, closes}
+use Rattle.semantics.specs.Redexes.{Redex, selectRedex, updateRedex, cloneRedex, termOf, at, decompose, idle, to, contract}
+use Rattle.semantics.specs.Frames.{Framed, framed, plugAll, waiting, opens, FramedReduces, stays, enters, closes}
 use Rattle.semantics.proofs.Objects.{method-in, length-with}
 use Rattle.semantics.proofs.Decomposing.{plug-decomposes, rule-contracts}
 use Rattle.semantics.proofs.Framing.{idle-under, framed-reduces, closes-keeps}
 use Rattle.reference.specs.Configurations.{Limits, sizes, RefTrial, trial-after, cells-after, Config, config, objects-of, cells-of, whole-of, Moves, stops, closing, reducing, NextStep}
-use Rattle.reference.specs.Answers.{Adds, Opens, Held, Ends, ends-done, ends-20, ends-21, ends-paused, ends-22, ends-23, ends-24, ends-25, ends-26, Kept}
+use Rattle.reference.specs.Answers.{Adds, Opens, Ends, ends-done, ends-20, ends-21, ends-paused, ends-22, ends-23, ends-24, ends-25, ends-26, Kept}
 use Rattle.reference.specs.States.{Reference, RefRan, progress-after}
 use Rattle.reference.specs.Laws.{Verdict, finishes, pauses, faults, idles, verdict, fault-of, enter-room, add-room, room, decide-contraction, decide-at, decide, Reducible, Shows, MovesReduce, Decided, NeverAstray, EndsShow, Unique}
 

@@ -1,6 +1,6 @@
 -- The six calls, in the reference's words: how each is refused, and what it does to the reference.
 use mathlib.Core.Path.{_≡_}
-use mathlib.Core.Bool.{Bool, true, false, cond}
+use mathlib.Core.Bool.{Bool, false, cond}
 use mathlib.Core.List.{List, [], _∷_}
 use Prim.Native.Nat.{ℕ, _+_, _^_, _<_}
 use lib.Dec.{eqb, ltb, leb}
@@ -27,7 +27,7 @@ use Rattle.semantics.specs.Objects.{Store}
 use Rattle.semantics.specs.Frames.{framed}
 use Rattle.reference.specs.Configurations.{Limits, RefTrial, absent, shut, on-trial, Config, config, objects-of, trial-of, cells-of}
 use Rattle.reference.specs.Compiling.{CompileSays}
-use Rattle.reference.specs.States.{Entered, entered, Source, source, term-at, used-by, Reference, with-terms, with-now, RefRun}
+use Rattle.reference.specs.States.{entered, Source, source, term-at, used-by, Reference, with-terms, with-now, RefRun}
 
 -- rows and how many givens; a program, givens and an allowance; how many reductions; and, where the store is a trial layer: open, and keep and
 -- put back by a token's number

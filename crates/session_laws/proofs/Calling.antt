@@ -14,7 +14,6 @@ use Rattle.std.specs.declared.result.Result.{Result}
 use Rattle.std.specs.declared.result.Result.the-variants.{Ok, Err}
 use Rattle.calculus.specs.Layout.{contents-of, layout, lengths, compiled}
 use Rattle.calculus.specs.Places.{nth, if-some}
-use Rattle.calculus.specs.Sizes.{term-sizes}
 use Rattle.calculus.specs.Standing.{Program}
 use Rattle.calculus.specs.Terms.{Term, Static, Closed, inst}
 use Rattle.calculus.specs.Text.{Text, joined}
@@ -29,7 +28,6 @@ use Rattle.calculus.specs.declared.values.Value.{Value}
 use Rattle.layout.proofs.Lengths.{layout-sizes}
 use Rattle.layout.proofs.Standing.{laid-out, program-more}
 use Rattle.rows.specs.Verdict.{verdict}
-use Rattle.rows.specs.Laws.{Writes}
 use Rattle.compiler.specs.Compile.{placed}
 use Rattle.store.specs.declared.closures.OldMethod.{OldMethod}
 use Rattle.store.specs.Meaning.{Meaning, Object, Trial, no-trial, closed, opened, overrun}
@@ -37,8 +35,7 @@ use Rattle.trial_layer.specs.declared.faults.TrialFault.{TrialFault}
 use Rattle.trial_layer.specs.declared.faults.TrialFault.the-variants.{Open, NoNumber, WrongToken, Overrun}
 use Rattle.trial_layer.specs.declared.token.Token.{Token}
 use Rattle.trial_layer.specs.Tokens.{token}
-use Rattle.trial_layer.specs.Trials.{undo, notes-of, open-result, opening, trial-opened, is-open, keep-result, kept, back-fault, back-result}
-use Rattle.trial_layer.specs.Trials as trials
+use Rattle.trial_layer.specs.Trials.{undo, notes-of, open-result, trial-opened, is-open, keep-result, kept, back-fault, back-result}
 use Rattle.machine_model.specs.declared.answers.RunAnswer.{RunAnswer}
 use Rattle.machine_model.specs.declared.answers.RunAnswer.the-variants as run-answer
 use Rattle.machine_model.specs.declared.answers.Stop.{Stop}
@@ -51,7 +48,7 @@ use Rattle.machine_model.specs.Settle.{fits}
 use Rattle.machine_model.specs.Start.{main-mark, givens-of, all-present, start-for, start-result, begun, started-if}
 use Rattle.machine_model.specs.Start as model
 use Rattle.machine_model.specs.Run.{Ran, run-for}
-use Rattle.machine_model.specs.Outcome.{Outcome, answered, outcome-of, count-outside, run-in, run-text}
+use Rattle.machine_model.specs.Outcome.{Outcome, answered, outcome-of, run-in, run-text}
 use Rattle.machine_model.specs.Outcome as outcome
 use Rattle.machine_model.proofs.Outcomes.{fitting}
 use Rattle.semantics.specs.Objects.{Store}
@@ -64,22 +61,22 @@ use Rattle.semantics.proofs.Translating.{unload-trans}
 use Rattle.reference.specs.Configurations.{Limits, sizes, RefTrial, absent, shut, on-trial, Config, config, objects-of, trial-of, cells-of, Moves}
 use Rattle.reference.specs.Answers.{Kept}
 use Rattle.reference.specs.Compiling.{CompileSays, says-1, says-2, says-row, says-10, says-11, says-12, says-number, with-program}
-use Rattle.reference.specs.States.{Entered, entered, Source, source, term-at, used-by, Reference, with-terms, with-now, progress-after, RefRan, RefRun, no-reference}
+use Rattle.reference.specs.States.{entered, Source, source, term-at, used-by, Reference, with-terms, with-now, progress-after, RefRun, no-reference}
 use Rattle.reference.specs.States as states
-use Rattle.reference.specs.Calls.{Call, compile, start, run, open-trial, keep, put-back, CompileAfter, start-by, start-in, start-says, start-with, start-after, open-says, open-after, is-on, keep-says, keep-after, put-says, put-after, second-or, with-trial, with-store, Valid}
+use Rattle.reference.specs.Calls.{Call, compile, start, run, open-trial, keep, put-back, CompileAfter, start-by, start-in, start-says, start-with, start-after, open-says, open-after, is-on, keep-says, keep-after, put-says, put-after, second-or, with-trial, with-store}
 use Rattle.machine_laws.specs.Standing.{StoreStands}
 use Rattle.machine_laws.specs.Running.{Standing, Runs}
 use Rattle.machine_laws.proofs.Growing.{store-tables, point-tables}
 use Rattle.machine_laws.proofs.Running.{runs-stand}
-use Rattle.machine_laws.proofs.Starting.{Accepted, accepted, cells-length, program-givens, starts-stand, store-given}
+use Rattle.machine_laws.proofs.Starting.{accepted, cells-length, program-givens, starts-stand}
 use Rattle.machine_laws.proofs.Ways.{way-progress}
 use Rattle.session_laws.specs.Sessions.{Session, with-text, with-machine, answer, CompiledTo, Leaves, no-trial-yet, new-session}
-use Rattle.session_laws.specs.Agreement.{Second, TrialStands, Known, Begun, ProgramAgrees, Agrees, Transits, TransitsIf}
+use Rattle.session_laws.specs.Agreement.{Second, TrialStands, Known, Begun, ProgramAgrees, Agrees, TransitsIf}
 use Rattle.session_laws.specs.Main.{Answered, CallsAgree, Performs, no-more, next-call, Follows, SessionsAgree}
 use Rattle.session_laws.proofs.Sizes.{store-length}
 use Rattle.session_laws.proofs.Trialing.{trial-cells, trial-tables}
 use Rattle.session_laws.proofs.Compiling.{fits-source, says}
-use Rattle.session_laws.proofs.Following.{config-at, Holds, Followed, follows, ends-so}
+use Rattle.session_laws.proofs.Following.{config-at, Holds, follows, ends-so}
 
 -- no program among the bodies
 no-mark : (p : ℕ) (ls : List (List Operation)) (n : ℕ) → if-some (nth (contents-of p ls) n) (λ e. main-mark (e .mark)) None ≡ None

@@ -1,18 +1,17 @@
 -- What compile answers, in the words of rows and terms.
-use mathlib.Core.Path.{_≡_, refl, ap, sym, _∙_, subst, subst₂}
+use mathlib.Core.Path.{_≡_, refl, ap, sym, subst}
 use mathlib.Core.Bool.{Bool, true, false, cond, _&&_, _||_}
 use mathlib.Core.List.{List, [], _∷_, _++_}
-use Prim.Native.Nat.{ℕ, zero, suc, _+_, _≤_, _<_}
+use Prim.Native.Nat.{ℕ, suc, _+_, _≤_}
 use native.Mathlib.Omega.{arith}
 use lib.Dec.{leb, ltb, eqb}
 use lib.ListN.{length}
 use borrow.Author.Tests.{ltb-true, ltb-false, leb-true, eqb-true, eqb-false}
 use Rattle.std.specs.declared.option.Option.{Option}
 use Rattle.std.specs.declared.option.Option.the-variants.{Some, None}
-use Rattle.std.specs.declared.result.Result.{Result}
 use Rattle.std.specs.declared.result.Result.the-variants.{Ok, Err}
-use Rattle.calculus.specs.Rows.{fits, fit-methods, many, has}
-use Rattle.calculus.specs.Sizes.{row-sizes, term-sizes}
+use Rattle.calculus.specs.Rows.{fits, fit-methods, many}
+use Rattle.calculus.specs.Sizes.{row-sizes}
 use Rattle.calculus.specs.Terms.{Term, var, val, object, select, update, clone, bind, Methods, nil, method, Static, StaticAll, Closed, ClosedAll}
 use Rattle.calculus.specs.declared.code.Counts.{Counts}
 use Rattle.calculus.specs.declared.refusals.RowFault.{RowFault}
@@ -20,12 +19,11 @@ use Rattle.calculus.specs.declared.refusals.RowFault.the-variants as row-fault
 use Rattle.calculus.specs.declared.refusals.Refusal.{Refusal}
 use Rattle.calculus.specs.declared.refusals.Refusal.the-variants.{RowCount, GivenCount, AtRow, ContentsFull, OperationsFull, MethodsFull}
 use Rattle.calculus.specs.declared.rows.Row.{Row}
-use Rattle.calculus.specs.declared.rows.Sizes.{Sizes}
 use Rattle.calculus.specs.declared.values.Value.the-variants.{Figure, Location}
 use Rattle.rows.specs.Verdict.{Want, a-term, judge, follows, unless, walk, sized, verdict}
-use Rattle.rows.specs.Laws.{Readable, Writes, Accepts, Because, FirstFault}
+use Rattle.rows.specs.Laws.{Readable, Writes, Accepts, FirstFault}
 use Rattle.rows.proofs.Laws.{lawful}
-use Rattle.compiler.specs.Compile.{placed, moved-by}
+use Rattle.compiler.specs.Compile.{placed}
 use Rattle.reference.specs.Compiling.{CompileSays, says-1, says-2, says-row, says-10, says-11, says-12, says-number, with-program}
 
 -- a term within the limits is of the source, and closed under its givens

@@ -1,17 +1,15 @@
 -- The reference follows a way of the table machine, and ends as the run stops.
-use mathlib.Core.Path.{_≡_, refl, ap, ap₂, sym, _∙_, subst, subst₂, subst₃}
+use mathlib.Core.Path.{_≡_, refl, ap, sym, _∙_, subst, subst₂}
 use mathlib.Core.Bool.{Bool, true, false, cond}
 use mathlib.Core.List.{List, [], _∷_, _++_, append-assoc, append-nil}
-use Prim.Native.Nat.{ℕ, zero, suc, _+_, _*_, _≤_, _<_}
+use Prim.Native.Nat.{ℕ, suc, _+_, _≤_, _<_}
 use native.Mathlib.Omega.{arith}
 use lib.Dec.{ltb, leb}
 use lib.ListN.{length, length-append, length-map}
 use borrow.Author.Tests.{ltb-true, ltb-false, leb-true, leb-false}
 use Rattle.std.specs.declared.option.Option.{Option}
 use Rattle.std.specs.declared.option.Option.the-variants.{Some, None}
-use Rattle.calculus.specs.Terms.{Term}
 use Rattle.calculus.specs.Text.{Text}
-use Rattle.calculus.specs.Trees.{done}
 use Rattle.calculus.specs.declared.refusals.Place.{Place}
 use Rattle.calculus.specs.declared.values.Value.{Value}
 use Rattle.store.specs.declared.closures.Closure.{Closure}
@@ -22,7 +20,6 @@ use Rattle.machine_model.specs.declared.answers.Fault.the-variants as fault
 use Rattle.machine_model.specs.declared.answers.RunAnswer.{RunAnswer}
 use Rattle.machine_model.specs.declared.answers.RunAnswer.the-variants as run
 use Rattle.machine_model.specs.declared.answers.Stop.{Stop}
-use Rattle.machine_model.specs.declared.answers.Stop.the-variants as stop
 use Rattle.machine_model.specs.declared.state.Cell.{Cell}
 use Rattle.machine_model.specs.State.{State}
 use Rattle.machine_model.specs.Settle.{settled}
@@ -31,14 +28,13 @@ use Rattle.semantics.specs.Objects.{Store}
 use Rattle.semantics.specs.Sequences.{ends, also}
 use Rattle.semantics.specs.Reduction.{Kind, making, selecting, updating, cloning, letting}
 use Rattle.semantics.specs.Frames.{Framed, waiting, Closes, closes}
-use Rattle.semantics.specs.Machine.{full, TreeStore, Silent, returning, loading, Label, τ, β, Transition, Run}
+use Rattle.semantics.specs.Machine.{TreeStore, returning, loading, Label, τ, β, Transition, Run}
 use Rattle.semantics.specs.Machine as tree
 use Rattle.semantics.specs.Unloading.{reference, unloadStore}
 use Rattle.semantics.specs.Counts.{betas}
 use Rattle.semantics.proofs.Simulation.{silent-mirrors, beta-mirrors}
 use Rattle.reference.specs.Configurations.{Limits, sizes, RefTrial, trial-after, cells-after, Config, config, Moves, stops, closing, reducing, NextStep}
 use Rattle.reference.specs.Answers.{Adds, Opens, Held, Ends, ends-done, ends-20, ends-21, ends-paused, ends-22, ends-23, ends-24, ends-25, ends-26, Kept}
-use Rattle.machine_laws.specs.Standing.{StoreStands, StateStands}
 use Rattle.machine_laws.specs.Settling.{Settling}
 use Rattle.machine_laws.specs.Reducing.{Ready, adds, enters, alters, kind-of, reduced, restored, hinders, RightKind, Reduction}
 use Rattle.machine_laws.specs.Running.{transitions, resting, Way, rests, goes, Stopped, at-value, at-figure, at-label, at-pause, at-allowance, at-limit, Since, Standing}

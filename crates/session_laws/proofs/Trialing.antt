@@ -2,12 +2,12 @@
 use mathlib.Core.Path.{_≡_, refl, ap, sym, _∙_, subst, subst₂}
 use mathlib.Core.Bool.{Bool, true, false, cond}
 use mathlib.Core.List.{List, [], _∷_, _++_, map}
-use Prim.Native.Nat.{ℕ, zero, suc, _+_, _≤_, _<_}
+use Prim.Native.Nat.{ℕ, suc, _+_, _≤_}
 use native.Mathlib.Omega.{arith}
 use lib.Dec.{ltb}
 use lib.ListN.{length, length-append, length-set, set}
 use borrow.Author.Tests.{ltb-true, ltb-false}
-use Rattle.std.specs.declared.option.Option.the-variants.{Some, None}
+use Rattle.std.specs.declared.option.Option.the-variants.{Some}
 use Rattle.calculus.specs.Places.{nth}
 use Rattle.calculus.specs.Terms.{Term}
 use Rattle.calculus.specs.Text.{Text, joined}
@@ -15,7 +15,7 @@ use Rattle.calculus.specs.Trees.{Code}
 use Rattle.store.specs.declared.closures.Closure.{Closure}
 use Rattle.store.specs.declared.closures.Method.{Method}
 use Rattle.store.specs.declared.closures.OldMethod.{OldMethod}
-use Rattle.store.specs.Meaning.{Meaning, Object, Trial, no-trial, closed, opened, overrun, put-closure, with-closure, noted, old-at, updated}
+use Rattle.store.specs.Meaning.{Meaning, Object, Trial, no-trial, closed, opened, overrun, with-closure, noted, updated}
 use Rattle.trial_layer.specs.Laws.{AllPlaced}
 use Rattle.trial_layer.specs.Trials.{undo}
 use Rattle.trial_layer.proofs.Booking.{placed-front, placed-set, placed-push}
