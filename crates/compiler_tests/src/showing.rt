@@ -16,13 +16,10 @@ use std::io;
 pub(crate) fn show_refusal(rt: &LibcRuntime, refusal: Refusal) -> io::Result<()> {
     let number = refusal.number();
     match refusal.place() {
-        Place::Whole => print!(rt, "refused {number}, "),
-        Place::Row(row) => print!(rt, "refused {number} at row {row}, "),
+        Place::Whole => print!(rt, "refused {number}"),
+        Place::Row(row) => print!(rt, "refused {number} at row {row}"),
         Place::Operation { list, operation } => {
-            print!(
-                rt,
-                "refused {number} at list {list} operation {operation}, "
-            )
+            print!(rt, "refused {number} at list {list} operation {operation}")
         }
     }
 }
@@ -31,7 +28,7 @@ pub(crate) fn show_counts(rt: &LibcRuntime, counts: Counts) -> io::Result<()> {
     let contents = counts.contents;
     let operations = counts.operations;
     let methods = counts.methods;
-    println!(rt, "used {contents} {operations} {methods}")
+    println!(rt, ", used {contents} {operations} {methods}")
 }
 
 fn show_row(rt: &LibcRuntime, row: Row) -> io::Result<()> {

@@ -149,7 +149,7 @@ pub(crate) fn compiled(
         methods: &mut space.methods,
     };
     match compile(rows, givens, &mut tables, &mut space.counts) {
-        Ok(program) => print!(rt, "program {program}, ")?,
+        Ok(program) => print!(rt, "program {program}")?,
         Err(refusal) => show_refusal(rt, refusal)?,
     }
     show_counts(rt, space.counts)
