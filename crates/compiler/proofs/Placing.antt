@@ -212,6 +212,7 @@ module _ (rows : List Row) (g : ℕ) (t : Tables) (c R : Counts) (z : Sizes) (er
 
       pub left : Compiled rows g (c .contents) t c u d
       left = record {
+        number = refl;
         term = (acc .0, acc .1);
         appended = whole;
         moved = λ x w. moved ∙ ap (moved-by c) (sizes-of x w);

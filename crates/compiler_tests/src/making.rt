@@ -1,4 +1,5 @@
 //! Tables of rows, read from text or made at random.
+use crate::words::Word;
 use calculus::rows::CLONE;
 use calculus::rows::FIGURE;
 use calculus::rows::LET;
@@ -8,6 +9,7 @@ use calculus::rows::Row;
 use calculus::rows::SELECT;
 use calculus::rows::UPDATE;
 use calculus::rows::VARIABLE;
+use compiler_bench::lets;
 use std::alloc::AllocError;
 use std::alloc::Global;
 
@@ -61,28 +63,13 @@ fn kind_of(letter: u8) -> u8 {
     }
 }
 
-/// Reads rows as `S7 O1 M7 V1`: a letter for the kind, and the number or label that it uses.
-pub(crate) fn read_rows(heap: Global, text: &str) -> Result<Vec<Row>, AllocError> {
+/// The rows that the words of a line name from the third on, as `S7 O1 M7 V1`: a letter for the kind, and the number or label that it uses.
+pub(crate) fn rows_in(heap: Global, words: &[Word]) -> Result<Vec<Row>, AllocError> {
     let mut rows = Vec::new(heap);
-    let mut kind = 0u8;
-    let mut value = 0u16;
-    for letter in text.bytes() {
-        match letter {
-            b' ' => {
-                rows.push(row(kind, value))?;
-                kind = 0;
-                value = 0;
-            }
-            b'0'..=b'9' => {
-                value = value
-                    .wrapping_mul(10)
-                    .wrapping_add(u16::from(letter - b'0'));
-            }
-            _ => kind = kind_of(letter),
+    for (place, word) in words.iter().enumerate() {
+        if place >= 2 {
+            rows.push(row(kind_of(word.letter), (word.number % 65536) as u16))?;
         }
-    }
-    if kind != 0 {
-        rows.push(row(kind, value))?;
     }
     Ok(rows)
 }
@@ -97,11 +84,19 @@ pub(crate) fn clones(heap: Global, depth: u32) -> Result<Vec<Row>, AllocError> {
     Ok(rows)
 }
 
+/// Lets of this height on both sides, and a row more.
+pub(crate) fn one_more(heap: Global, height: u32) -> Result<Vec<Row>, AllocError> {
+    let mut rows = lets(heap, height)?;
+    rows.push(row(FIGURE, 0))?;
+    Ok(rows)
+}
+
 /// An object of this many methods.
-pub(crate) fn object(heap: Global, methods: u16) -> Result<Vec<Row>, AllocError> {
+pub(crate) fn object(heap: Global, methods: u32) -> Result<Vec<Row>, AllocError> {
     let mut rows = Vec::new(heap);
-    rows.push(row(OBJECT, methods))?;
-    for label in 0..methods {
+    let count = (methods % 65536) as u16;
+    rows.push(row(OBJECT, count))?;
+    for label in 0..count {
         rows.push(row(METHOD, label))?;
         rows.push(row(VARIABLE, 1))?;
     }

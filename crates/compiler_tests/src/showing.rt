@@ -1,4 +1,5 @@
 //! Tables, rows and refusals as text.
+use crate::trying::Space;
 use calculus::area::used_of;
 use calculus::code::Counts;
 use calculus::code::ListEntry;
@@ -15,12 +16,19 @@ use std::io;
 pub(crate) fn show_refusal(rt: &LibcRuntime, refusal: Refusal) -> io::Result<()> {
     let number = refusal.number();
     match refusal.place() {
-        Place::Whole => println!(rt, "refused {number}"),
-        Place::Row(row) => println!(rt, "refused {number} at row {row}"),
+        Place::Whole => print!(rt, "refused {number}"),
+        Place::Row(row) => print!(rt, "refused {number} at row {row}"),
         Place::Operation { list, operation } => {
-            println!(rt, "refused {number} at list {list} operation {operation}")
+            print!(rt, "refused {number} at list {list} operation {operation}")
         }
     }
+}
+
+pub(crate) fn show_counts(rt: &LibcRuntime, counts: Counts) -> io::Result<()> {
+    let contents = counts.contents;
+    let operations = counts.operations;
+    let methods = counts.methods;
+    println!(rt, ", used {contents} {operations} {methods}")
 }
 
 fn show_row(rt: &LibcRuntime, row: Row) -> io::Result<()> {
@@ -39,9 +47,10 @@ fn show_row(rt: &LibcRuntime, row: Row) -> io::Result<()> {
     }
 }
 
-pub(crate) fn show_rows(rt: &LibcRuntime, rows: &[Row]) -> io::Result<()> {
-    print!(rt, "rows:")?;
-    for row in rows {
+/// The first rows of the area.
+pub(crate) fn show_rows(rt: &LibcRuntime, area: &[Row], len: u32) -> io::Result<()> {
+    print!(rt, "{len} rows:")?;
+    for row in area.iter().take(len as usize) {
         show_row(rt, *row)?;
     }
     println!(rt, "")
@@ -76,8 +85,18 @@ fn show_list(
     println!(rt, "")
 }
 
-/// Every list that is used, with its operations, and then the method entries.
-pub(crate) fn show_tables(rt: &LibcRuntime, tables: &Tables<'_>, counts: Counts) -> io::Result<()> {
+/// `show`: every list that is used, with its operations, and then the method entries.
+pub(crate) fn show_used(rt: &LibcRuntime, space: &mut Space) -> io::Result<()> {
+    let counts = space.counts;
+    let tables = Tables {
+        contents: &mut space.contents,
+        operations: &mut space.operations,
+        methods: &mut space.methods,
+    };
+    show_tables(rt, &tables, counts)
+}
+
+fn show_tables(rt: &LibcRuntime, tables: &Tables<'_>, counts: Counts) -> io::Result<()> {
     match used_of(tables, counts) {
         None => println!(rt, "counts past the tables"),
         Some(code) => {
