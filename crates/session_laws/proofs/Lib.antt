@@ -3,3 +3,4 @@ pub mod Trialing
 pub mod Following
 pub mod Compiling
 pub mod Calling
+pub mod Leaving

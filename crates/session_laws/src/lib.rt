@@ -1,5 +1,7 @@
 //! The main theorem: a session agrees with the calculus.
 ghost use Rattle.session_laws.specs.Main.{CallsAgree, SessionsAgree};
+ghost use Rattle.session_laws.specs.Laws.{CompileIsDecided, CallsLeaveOne};
+ghost use Rattle.session_laws.specs.Areas.{AreasAreSessions};
 
 /// Each call of a session that agrees with the reference is answered as the reference answers it, and leaves a session that agrees again.
 pub fn calls_agree() -> u8
@@ -11,6 +13,27 @@ pub fn calls_agree() -> u8
 /// Whatever calls a new session performs, there are states of the reference, one after each call, with which it agrees.
 pub fn sessions_agree() -> u8
     ensures { λ _. ⌜ SessionsAgree ⌝ }
+{
+    0
+}
+
+/// The conditions of compile, in their order, hold of exactly one answer, which is the code's.
+pub fn compile_is_decided() -> u8
+    ensures { λ _. ⌜ CompileIsDecided ⌝ }
+{
+    0
+}
+
+/// Every call of every session leaves a session, and only one.
+pub fn calls_leave_one() -> u8
+    ensures { λ _. ⌜ CallsLeaveOne ⌝ }
+{
+    0
+}
+
+/// What the code's compile, start and run answer and leave over a code area is what the session's calls do.
+pub fn areas_are_sessions() -> u8
+    ensures { λ _. ⌜ AreasAreSessions ⌝ }
 {
     0
 }

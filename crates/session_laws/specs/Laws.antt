@@ -1,0 +1,27 @@
+-- That the calls are what they are said to be: compile's answer is decided, and each call of a session leaves one session.
+use mathlib.Core.Path.{_≡_}
+use mathlib.Core.Logic.{_↔_}
+use mathlib.Core.List.{List}
+use Prim.Native.Nat.{ℕ}
+use Rattle.std.specs.declared.result.Result.{Result}
+use Rattle.calculus.specs.declared.code.Counts.{Counts}
+use Rattle.calculus.specs.declared.refusals.Refusal.{Refusal}
+use Rattle.calculus.specs.declared.rows.Row.{Row}
+use Rattle.rows.specs.Verdict.{verdict}
+use Rattle.compiler.specs.Compile.{placed}
+use Rattle.reference.specs.Compiling.{CompileSays}
+use Rattle.reference.specs.Calls.{Call}
+use Rattle.session_laws.specs.Sessions.{Session, Leaves}
+
+-- the conditions of compile, in their order, hold of exactly one answer: the code's
+abbrev pub CompileIsDecided : Type 0
+CompileIsDecided = (room used : Counts) (rows : List Row) (g : ℕ) (x : Result ℕ Refusal) → CompileSays room used rows g x ↔ (x ≡ placed room used (verdict rows g))
+
+-- every call of every session leaves a session, and only one
+pub record LeavesOne (s : Session) (c : Call) : Type 0 where
+  pub left : Session
+  pub leaves : Leaves s c left
+  pub only : (s′ : Session) → Leaves s c s′ → s′ ≡ left
+
+abbrev pub CallsLeaveOne : Type 0
+CallsLeaveOne = (s : Session) (c : Call) → LeavesOne s c
