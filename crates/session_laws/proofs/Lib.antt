@@ -4,3 +4,4 @@ pub mod Following
 pub mod Compiling
 pub mod Calling
 pub mod Leaving
+pub mod Deciding

@@ -1,6 +1,6 @@
 //! The main theorem: a session agrees with the calculus.
 ghost use Rattle.session_laws.specs.Main.{CallsAgree, SessionsAgree};
-ghost use Rattle.session_laws.specs.Laws.{CompileIsDecided, CallsLeaveOne};
+ghost use Rattle.session_laws.specs.Laws.{CompileIsDecided, CallsAreUnique, CallsLeaveOne};
 ghost use Rattle.session_laws.specs.Areas.{AreasAreSessions};
 
 /// Each call of a session that agrees with the reference is answered as the reference answers it, and leaves a session that agrees again.
@@ -20,6 +20,13 @@ pub fn sessions_agree() -> u8
 /// The conditions of compile, in their order, hold of exactly one answer, which is the code's.
 pub fn compile_is_decided() -> u8
     ensures { λ _. ⌜ CompileIsDecided ⌝ }
+{
+    0
+}
+
+/// The reference answers each call in one way, and goes on to one state.
+pub fn calls_are_unique() -> u8
+    ensures { λ _. ⌜ CallsAreUnique ⌝ }
 {
     0
 }
