@@ -41,7 +41,8 @@ use Rattle.machine_model.specs.Outcome.{Outcome, count-outside, run-text, run-o
 use Rattle.reference.specs.Compiling.{CompileSays, says-1, says-2, says-row, says-10, says-11, says-12, says-number, with-program}
 use Rattle.reference.specs.Calls.{Call, compile, start, run, open-trial, keep, put-back}
 use Rattle.session_laws.specs.Sessions.{Session, with-text, answer, CompiledTo, Leaves}
-use Rattle.session_laws.specs.Laws.{CompileIsDecided, LeavesOne, CallsLeaveOne}
+use Rattle.session_laws.specs.Main.{no-more, next-call}
+use Rattle.session_laws.specs.Laws.{CompileIsDecided, LeavesOne, CallsLeaveOne, EveryListIsPerformed}
 use Rattle.session_laws.specs.Areas.{session-over, OverArea, AreasAreSessions}
 use Rattle.session_laws.proofs.Compiling.{says}
 
@@ -126,6 +127,10 @@ calls-leave-one s (run n) = is-one s (run n) _ refl (λ s′ h. h)
 calls-leave-one s open-trial = is-one s open-trial _ refl (λ s′ h. h)
 calls-leave-one s (keep k) = is-one s (keep k) _ refl (λ s′ h. h)
 calls-leave-one s (put-back k) = is-one s (put-back k) _ refl (λ s′ h. h)
+
+pub every-list-is-performed : EveryListIsPerformed
+every-list-is-performed s [] h = no-more
+every-list-is-performed s (c ∷ cs) h = let z = calls-leave-one s c in next-call (z .left) (h .0) (z .leaves) (every-list-is-performed (z .left) cs (h .1))
 
 -- over an area
 

@@ -2,7 +2,7 @@
 -- leaves one session.
 use mathlib.Core.Path.{_≡_}
 use mathlib.Core.Logic.{_↔_}
-use mathlib.Core.List.{List}
+use mathlib.Core.List.{List, [], _∷_}
 use Prim.Native.Nat.{ℕ}
 use Rattle.std.specs.declared.result.Result.{Result}
 use Rattle.calculus.specs.declared.code.Counts.{Counts}
@@ -11,10 +11,11 @@ use Rattle.calculus.specs.declared.rows.Row.{Row}
 use Rattle.rows.specs.Verdict.{verdict}
 use Rattle.compiler.specs.Compile.{placed}
 use Rattle.reference.specs.Compiling.{CompileSays}
-use Rattle.reference.specs.Calls.{Call, compile, start, run, open-trial, keep, put-back, AnswerOf, RefCall}
+use Rattle.reference.specs.Calls.{Call, compile, start, run, open-trial, keep, put-back, AnswerOf, RefCall, Valid}
 use Rattle.reference.specs.Laws as answers
 use Rattle.reference.specs.States.{Reference}
 use Rattle.session_laws.specs.Sessions.{Session, Leaves}
+use Rattle.session_laws.specs.Main.{Performs}
 
 -- the conditions of compile, in their order, hold of exactly one answer: the code's
 abbrev pub CompileIsDecided : Type 0
@@ -41,3 +42,11 @@ pub record LeavesOne (s : Session) (c : Call) : Type 0 where
 
 abbrev pub CallsLeaveOne : Type 0
 CallsLeaveOne = (s : Session) (c : Call) → LeavesOne s c
+
+abbrev pub AllValid : List Call → Type 0
+AllValid [] = Unit {0}
+AllValid (c ∷ cs) = Valid c × AllValid cs
+
+-- so every list of calls is performed by every session
+abbrev pub EveryListIsPerformed : Type 0
+EveryListIsPerformed = (s : Session) (cs : List Call) → AllValid cs → Performs s cs

@@ -1,6 +1,6 @@
 //! The main theorem: a session agrees with the calculus.
 ghost use Rattle.session_laws.specs.Main.{CallsAgree, SessionsAgree};
-ghost use Rattle.session_laws.specs.Laws.{CompileIsDecided, CallsAreUnique, CallsLeaveOne};
+ghost use Rattle.session_laws.specs.Laws.{CompileIsDecided, CallsAreUnique, CallsLeaveOne, EveryListIsPerformed};
 ghost use Rattle.session_laws.specs.Areas.{AreasAreSessions};
 
 /// Each call of a session that agrees with the reference is answered as the reference answers it, and leaves a session that agrees again.
@@ -31,9 +31,9 @@ pub fn calls_are_unique() -> u8
     0
 }
 
-/// Every call of every session leaves a session, and only one.
+/// Every call of every session leaves a session, and only one; so every list of calls is performed.
 pub fn calls_leave_one() -> u8
-    ensures { λ _. ⌜ CallsLeaveOne ⌝ }
+    ensures { λ _. ⌜ CallsLeaveOne ⌝ ∗ ⌜ EveryListIsPerformed ⌝ }
 {
     0
 }
