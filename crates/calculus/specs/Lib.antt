@@ -4,3 +4,4 @@ pub mod Held
 pub mod Terms
 pub mod Rows
 pub mod Sizes
+pub mod Trees
