@@ -140,7 +140,7 @@ fn sizes_of(rows: &[Row]) -> Sizes
                 contents += 1;
                 methods += 1;
             }
-            UPDATE | LET => {
+            LET | UPDATE => {
                 contents += 1;
                 operations += 1;
             }
