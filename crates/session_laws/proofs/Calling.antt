@@ -63,7 +63,7 @@ use Rattle.reference.specs.Answers.{Kept}
 use Rattle.reference.specs.Compiling.{CompileSays, says-1, says-2, says-row, says-10, says-11, says-12, says-number, with-program}
 use Rattle.reference.specs.States.{entered, Source, source, term-at, used-by, Reference, with-terms, with-now, progress-after, RefRun, no-reference}
 use Rattle.reference.specs.States as states
-use Rattle.reference.specs.Calls.{Call, compile, start, run, open-trial, keep, put-back, CompileAfter, start-by, start-in, start-says, start-with, start-after, open-says, open-after, is-on, keep-says, keep-after, put-says, put-after, second-or, with-trial, with-store}
+use Rattle.reference.specs.Calls.{Call, compile, start, run, open-trial, keep, put-back, CompileAfter, start-by, start-in, start-says, start-with, start-after, open-says, open-after, is-on, keep-says, keep-after, put-says, put-after, second-or, with-trial, with-store, Valid}
 use Rattle.machine_laws.specs.Standing.{StoreStands}
 use Rattle.machine_laws.specs.Running.{Standing, Runs}
 use Rattle.machine_laws.proofs.Growing.{store-tables, point-tables}
@@ -631,15 +631,15 @@ calls-agree s R (put-back k) s′ a v l = done-put s R a k s′ l
 
 -- call after call, from the beginning
 
-follows-all : {s : Session} {cs : List Call} (p : Performs s cs) (R : Reference) → Agrees s R → Follows p R
+pub follows-all : {s s″ : Session} {cs : List Call} (p : Performs s cs s″) (R : Reference) → Agrees s R → Follows p R
 follows-all no-more R a = a
-follows-all (next-call {s} {c} s′ v l p) R a = let d = calls-agree s R c s′ a v l in (a, d .next, d .says, d .counts, follows-all p (d .next) (d .agrees))
+follows-all (next-call {s} {c = c} s′ v l p) R a = let d = calls-agree s R c s′ a v l in (a, d .next, d .says, d .counts, follows-all p (d .next) (d .agrees))
 
 trial-begins : (b : Bool) (T : Text) (cells : List Cell) → TrialStands T cells [] [] (no-trial-yet b) (states.no-trial-yet b)
 trial-begins true T cells = refl
 trial-begins false T cells = tt
 
-agrees-new : (b : Bool) (Λ : Limits) → Agrees (new-session b Λ) (no-reference b Λ)
+pub agrees-new : (b : Bool) (Λ : Limits) → Agrees (new-session b Λ) (no-reference b Λ)
 agrees-new b Λ =
     record {
       store = [];
@@ -662,4 +662,13 @@ agrees-new b Λ =
     }
 
 pub sessions-agree : SessionsAgree
-sessions-agree b Λ cs p = follows-all p (no-reference b Λ) (agrees-new b Λ)
+sessions-agree b Λ cs s p = follows-all p (no-reference b Λ) (agrees-new b Λ)
+
+-- one call more, and where the reference is at the end
+pub performs-more : {s s′ : Session} {cs : List Call} → Performs s cs s′ → (c : Call) (s″ : Session) → Valid c → Leaves s′ c s″ → Performs s (cs ++ (c ∷ [])) s″
+performs-more no-more c s″ v l = next-call s″ v l no-more
+performs-more (next-call s₁ w k p) c s″ v l = next-call s₁ w k (performs-more p c s″ v l)
+
+pub follows-to : {s s″ : Session} {cs : List Call} (p : Performs s cs s″) (R : Reference) → Follows p R → (R′ : Reference) × Agrees s″ R′
+follows-to no-more R a = (R, a)
+follows-to (next-call s′ v l p) R h = follows-to p (h .1) (h .4)

@@ -129,8 +129,9 @@ calls-leave-one s (keep k) = is-one s (keep k) _ refl (λ s′ h. h)
 calls-leave-one s (put-back k) = is-one s (put-back k) _ refl (λ s′ h. h)
 
 pub every-list-is-performed : EveryListIsPerformed
-every-list-is-performed s [] h = no-more
-every-list-is-performed s (c ∷ cs) h = let z = calls-leave-one s c in next-call (z .left) (h .0) (z .leaves) (every-list-is-performed (z .left) cs (h .1))
+every-list-is-performed s [] h = (s, no-more)
+every-list-is-performed s (c ∷ cs) h =
+    let z = calls-leave-one s c in let (s′, p) = every-list-is-performed (z .left) cs (h .1) in (s′, next-call (z .left) (h .0) (z .leaves) p)
 
 -- over an area
 
@@ -170,4 +171,7 @@ areas-are-sessions t c s m h =
       start-leaves = λ p vs a. ap (λ x. session-over t c (started-if x s (begun s p vs a)) m) (start-same t c s m h p vs);
       run-answers = λ n. ap (λ (z : Outcome). z .answer) (run-same t c s m h n);
       run-leaves = λ n. ap (λ (z : Outcome). session-over t c (z .state) (z .store)) (run-same t c s m h n);
+      open-leaves = refl;
+      keep-leaves = λ k. refl;
+      put-back-leaves = λ k. refl;
     }

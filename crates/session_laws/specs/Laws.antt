@@ -49,4 +49,4 @@ AllValid (c ∷ cs) = Valid c × AllValid cs
 
 -- so every list of calls is performed by every session
 abbrev pub EveryListIsPerformed : Type 0
-EveryListIsPerformed = (s : Session) (cs : List Call) → AllValid cs → Performs s cs
+EveryListIsPerformed = (s : Session) (cs : List Call) → AllValid cs → (s′ : Session) × Performs s cs s′

@@ -26,16 +26,16 @@ pub record Answered (s : Session) (R : Reference) (c : Call) (s′ : Session) : 
 abbrev pub CallsAgree : Type 0
 CallsAgree = (s : Session) (R : Reference) (c : Call) (s′ : Session) → Agrees s R → Valid c → Leaves s c s′ → Answered s R c s′
 
--- a session performs calls, one after another
-pub data Performs : Session → List Call → Type 0 where
-  no-more : {s : Session} → Performs s []
-  next-call : {s : Session} {c : Call} {cs : List Call} (s′ : Session) → Valid c → Leaves s c s′ → Performs s′ cs → Performs s (c ∷ cs)
+-- a session performs calls, one after another, up to another session
+pub data Performs : Session → List Call → Session → Type 0 where
+  no-more : {s : Session} → Performs s [] s
+  next-call : {s s″ : Session} {c : Call} {cs : List Call} (s′ : Session) → Valid c → Leaves s c s′ → Performs s′ cs s″ → Performs s (c ∷ cs) s″
 
 -- there are states of the reference, one after each call, with which the session agrees
-abbrev pub Follows : {s : Session} {cs : List Call} → Performs s cs → Reference → Type 0
+abbrev pub Follows : {s s″ : Session} {cs : List Call} → Performs s cs s″ → Reference → Type 0
 Follows {s} no-more R = Agrees s R
 Follows {s} (next-call {c = c} s′ v l p) R = Agrees s R × (R′ : Reference) × RefCall c R (answer s c) R′ × Counts s c s′ × Follows p R′
 
 -- for every list of calls that a new session performs
 abbrev pub SessionsAgree : Type 0
-SessionsAgree = (b : Bool) (Λ : Limits) (cs : List Call) (p : Performs (new-session b Λ) cs) → Follows p (no-reference b Λ)
+SessionsAgree = (b : Bool) (Λ : Limits) (cs : List Call) (s : Session) (p : Performs (new-session b Λ) cs s) → Follows p (no-reference b Λ)
