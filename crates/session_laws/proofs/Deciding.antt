@@ -1,5 +1,5 @@
 -- The reference answers each call in one way, and goes on to one state.
-use mathlib.Core.Path.{_≡_, refl, ap, sym, _∙_, subst}
+use mathlib.Core.Path.{_≡_, ap, sym, _∙_, subst}
 use mathlib.Core.List.{List, _∷_}
 use Prim.Native.Nat.{ℕ}
 use Rattle.std.specs.declared.result.Result.{Result}

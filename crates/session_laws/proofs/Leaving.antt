@@ -1,19 +1,15 @@
 -- Compile's answer is decided, each call leaves one session, and the code's calls over an area are a session's.
 use mathlib.Core.Path.{_≡_, refl, ap, ap₂, sym, _∙_, subst}
-use mathlib.Core.Logic.{_↔_}
 use mathlib.Core.Bool.{Bool, true, false, cond, _||_}
 use mathlib.Core.List.{List, [], _∷_}
-use Prim.Native.Nat.{ℕ, _+_, _≤_, _<_}
+use Prim.Native.Nat.{ℕ, _≤_}
 use native.Mathlib.Omega.{arith}
 use borrow.Author.Tests.{lt-ltb, le-ltb, eqb-true, eqb-false, ltb-true, ltb-false}
 use Rattle.std.proofs.shelf.Tests.{cond-true, cond-false}
 use lib.Dec.{eqb, ltb}
-use lib.ListN.{length, take}
-use denote.Ref.{now}
-use Rattle.std.specs.declared.option.Option.the-variants.{Some, None}
+use lib.ListN.{length}
 use Rattle.std.specs.declared.result.Result.{Result}
 use Rattle.std.specs.declared.result.Result.the-variants.{Ok, Err}
-use Rattle.calculus.specs.Held.{counted}
 use Rattle.calculus.specs.Layout.{lengths, compiled}
 use Rattle.calculus.specs.Sizes.{row-sizes, term-sizes}
 use Rattle.calculus.specs.Terms.{Term}
@@ -23,27 +19,26 @@ use Rattle.calculus.specs.declared.code.Tables.{Tables}
 use Rattle.calculus.specs.declared.refusals.Refusal.{Refusal}
 use Rattle.calculus.specs.declared.refusals.Refusal.the-variants as refusal
 use Rattle.calculus.specs.declared.rows.Row.{Row}
-use Rattle.calculus.specs.declared.rows.Sizes.{Sizes}
 use Rattle.calculus.specs.declared.values.Value.{Value}
 use Rattle.calculus.proofs.Sizes.{sizes-are}
 use Rattle.layout.proofs.Reading.{one-term}
 use Rattle.rows.specs.Verdict.{a-term, walk, sized, verdict}
-use Rattle.rows.specs.Laws.{Readable, Writes}
+use Rattle.rows.specs.Laws.{Writes}
 use Rattle.rows.proofs.Laws.{lawful}
 use Rattle.rows.proofs.Plain.{term-accepted}
-use Rattle.compiler.specs.Compile.{placed, moved-by, Compiled, Untouched}
+use Rattle.compiler.specs.Compile.{placed, Compiled, Untouched}
 use Rattle.compiler.specs.Compile as code
 use Rattle.compiler.proofs.Placing.{within-is, lengths-used}
 use Rattle.store.specs.Meaning.{Meaning}
 use Rattle.machine_model.specs.State.{State}
-use Rattle.machine_model.specs.Start.{start-result, started-if, begun, start-answer, start-state}
-use Rattle.machine_model.specs.Outcome.{Outcome, count-outside, run-text, run-outcome}
+use Rattle.machine_model.specs.Start.{start-result, started-if, begun, start-answer}
+use Rattle.machine_model.specs.Outcome.{Outcome, run-text, run-outcome}
 use Rattle.reference.specs.Compiling.{CompileSays, says-1, says-2, says-row, says-10, says-11, says-12, says-number, with-program}
 use Rattle.reference.specs.Calls.{Call, compile, start, run, open-trial, keep, put-back}
 use Rattle.session_laws.specs.Sessions.{Session, with-text, answer, CompiledTo, Leaves}
 use Rattle.session_laws.specs.Main.{no-more, next-call}
 use Rattle.session_laws.specs.Laws.{CompileIsDecided, LeavesOne, CallsLeaveOne, EveryListIsPerformed}
-use Rattle.session_laws.specs.Areas.{session-over, OverArea, AreasAreSessions}
+use Rattle.session_laws.specs.Areas.{session-over, AreasAreSessions}
 use Rattle.session_laws.proofs.Compiling.{says}
 
 -- compile's answer is decided
