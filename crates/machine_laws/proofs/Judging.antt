@@ -15,7 +15,7 @@ use Rattle.std.specs.declared.result.Result.the-variants.{Ok, Err}
 use Rattle.calculus.specs.Places.{nth, if-some}
 use Rattle.calculus.specs.Text.{Text}
 use Rattle.calculus.specs.Terms.{Term, val, select, update, clone, Closed, Within, instVar}
-use Rattle.calculus.specs.Trees.{Code, accessOp, figureOp, objectOp, Rest, done, selectOp, updateOp, cloneOp, letOp}
+use Rattle.calculus.specs.Trees.{Code, accessOp, figureOp, objectOp, Rest, done, selectOp, updateOp, cloneOp, letOp, Bodies}
 use Rattle.calculus.specs.Standing.{CodeAt, BodiesAt, Stands, AtCode, AtRest}
 use Rattle.calculus.specs.declared.values.Value.{Value}
 use Rattle.calculus.specs.declared.values.Value.the-variants.{Figure, Location}
@@ -42,7 +42,7 @@ use Rattle.semantics.specs.Reduction.{Kind, making, selecting, cloning, letting
 use Rattle.semantics.specs.Machine.{Env, variable, closure, close, TreeStore, empty, full, β, Transition, β-object, β-select, β-update, β-clone, β-let}
 use Rattle.semantics.specs.Machine as tree
 use Rattle.semantics.specs.Unloading.{unloadCode, unloadRest, unloadClosure, unloadStore, contextOf, current}
-use Rattle.semantics.proofs.Objects.{method-in, object-some, object-none, object-missing, method-none}
+use Rattle.semantics.proofs.Objects.{method-in, object-some, object-none, object-missing, method-none, length-with}
 use Rattle.semantics.proofs.Simulation.{plug-context}
 use Rattle.semantics.proofs.Statuses.{variable-none}
 use Rattle.machine_laws.specs.Standing.{EnvStands, ObjectStands, StoreStands, FramesStand, StateStands, DueStands}
@@ -197,7 +197,7 @@ module _ (T : Text) (s : State) (m : Meaning) (σ : TreeStore) (hs : StoreStands
           stands = (refl, hr, he, hw);
           store-stands = subst (λ os. StoreStands T (s .cells) os (objects.with-method σ n l (closure c vs))) (sym changes)
               (stands-with T (s .cells) (m .objects) σ n l x (set o p (with-closure w k)) (closure c vs) hs px (t k (closure c vs) (hb, he)));
-          store-after = (Rattle.semantics.proofs.Objects.length-with σ n l (closure c vs), o, w, po, q);
+          store-after = (length-with σ n l (closure c vs), o, w, po, q);
         })
 
     judge-update : (n l b : ℕ) (c : Code) (x : Option Object) (y : Option (objects.Object (tree.Closure Code))) → nth (m .objects) n ≡ x → nth σ n ≡ y → Located T (s .cells) x y → Stands T b c →
@@ -227,7 +227,7 @@ module _ (T : Text) (s : State) (m : Meaning) (σ : TreeStore) (hs : StoreStands
     let-in : (v : Value) (b : ℕ) (c : Code) → Stands T b c → Judged (due.Reduce (redex.Let v b)) (full (letOp c r) vs v rs)
     let-in v b c hb = judged-ready (Bind v b) (enters letting v (f .env) b) tt (acts-enter T s m letting v (f .env) b) (going-in letting (full (letOp c r) vs v rs) v (f .env) b c vs β-let hb he)
 
-    made : (p n : ℕ) (bs : Rattle.calculus.specs.Trees.Bodies) → BodiesAt T (f .list) p n bs → Judged (due.Reduce (redex.Object p n)) (empty (objectOp bs r) vs rs)
+    made : (p n : ℕ) (bs : Bodies) → BodiesAt T (f .list) p n bs → Judged (due.Reduce (redex.Object p n)) (empty (objectOp bs r) vs rs)
     made p n bs hb =
         let o : Object = methods-of (entries-at T p n) (f .env) in
         subst (λ y. Judgement T s m (empty (objectOp bs r) vs rs) σ (or-stop y))

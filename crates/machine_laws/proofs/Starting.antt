@@ -50,7 +50,7 @@ pub store-given : (T : Text) (cells : List Cell) (vs : List Value) (os : List Ob
 store-given T cells [] os σ h = h
 store-given T cells (v ∷ vs) os σ h = store-cells T (cells-with cells vs) (record { value = v; parent = env-with cells vs } ∷ []) os σ (store-given T cells vs os σ h)
 
-both : (a b : Bool) → (a && b) ≡ true → (a ≡ true) × (b ≡ true)
+pub both : (a b : Bool) → (a && b) ≡ true → (a ≡ true) × (b ≡ true)
 both true true h = (refl, refl)
 both true false h = (refl, h)
 both false b h = (h, let z : _≡_ {A = ℕ} 0 1 = cc in absurd (omega arith))

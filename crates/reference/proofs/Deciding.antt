@@ -24,7 +24,7 @@ use Rattle.semantics.specs.Objects.{Store, Object, labelled, replace, with-meth
 use Rattle.semantics.specs.Sequences.{ends, also}
 use Rattle.semantics.specs.Reduction.{Kind, making, selecting, updating, cloning, letting, Context, plug, methods, Rule, red-object, red-select, red-update, red-clone, red-let, Stuck, Reductions, TakesFigure, select-figure, update-figure, clone-figure, LacksLabel, select-missing, update-missing}
 use Rattle.semantics.specs.Redexes.{Redex, selectRedex, updateRedex, cloneRedex, termOf, at, decompose, idle, to, contract}
-use Rattle.semantics.specs.Frames.{Framed, framed, plugAll, waiting, opens, FramedReduces, stays, enters, closes}
+use Rattle.semantics.specs.Frames.{Framed, framed, plugAll, waiting, opens, FramedReduces, stays, enters, closes, whole}
 use Rattle.semantics.proofs.Objects.{method-in, length-with}
 use Rattle.semantics.proofs.Decomposing.{plug-decomposes, rule-contracts}
 use Rattle.semantics.proofs.Framing.{idle-under, framed-reduces, closes-keeps}
@@ -336,7 +336,7 @@ never-astray Λ A n j ks c a h = astray-not h
 stuck-by : (Rs : List Context) (t : Term) (σ : Store Term) (f : Fault) (R : Context) (a : Term) → t ≡ plug R a → Idles a σ f → Stuck (plugAll Rs t) σ
 stuck-by Rs t σ f R a e h = subst (λ x. Stuck (plugAll Rs x) σ) (sym (e ∙ ap (plug R) (h .is))) (idle-under Rs R (h .redex) σ (h .does))
 
-can : (k : Kind) (F : Framed) (σ σ′ : Store Term) → NextStep k F σ σ′ → Reducible (Rattle.semantics.specs.Frames.whole F) σ
+can : (k : Kind) (F : Framed) (σ σ′ : Store Term) → NextStep k F σ σ′ → Reducible (whole F) σ
 can k F σ σ′ x = record { kind = k; term = _; store = σ′; reduction = framed-reduces (x .step) }
 
 shows : {Λ : Limits} {A n j : ℕ} {ks : List Kind} {c : Config} {a : RunAnswer} → Ends Λ A n j ks c a → Shows (verdict a) (whole-of c) (objects-of c)

@@ -1,6 +1,6 @@
 -- What compile answers, in the words of rows and terms.
 use mathlib.Core.Path.{_≡_, refl, ap, sym, subst}
-use mathlib.Core.Bool.{Bool, true, false, cond, _&&_, _||_}
+use mathlib.Core.Bool.{Bool, true, false, cond, _||_}
 use mathlib.Core.List.{List, [], _∷_, _++_}
 use Prim.Native.Nat.{ℕ, suc, _+_, _≤_}
 use native.Mathlib.Omega.{arith}
@@ -24,14 +24,10 @@ use Rattle.rows.specs.Verdict.{Want, a-term, judge, follows, unless, walk, size
 use Rattle.rows.specs.Laws.{Readable, Writes, Accepts, FirstFault}
 use Rattle.rows.proofs.Laws.{lawful}
 use Rattle.compiler.specs.Compile.{placed}
+use Rattle.machine_laws.proofs.Starting.{both}
 use Rattle.reference.specs.Compiling.{CompileSays, says-1, says-2, says-row, says-10, says-11, says-12, says-number, with-program}
 
 -- a term within the limits is of the source, and closed under its givens
-both : (a b : Bool) → (a && b) ≡ true → (a ≡ true) × (b ≡ true)
-both true true h = (refl, refl)
-both true false h = (refl, h)
-both false b h = (h, let z : _≡_ {A = ℕ} 0 1 = cc in absurd (omega arith))
-
 one-deeper : (n : ℕ) (b : Term) → Closed (n + 1) b → Closed (suc n) b
 one-deeper n b h = let e : n + 1 ≡ suc n = omega arith in subst (λ k. Closed k b) e h
 

@@ -26,7 +26,7 @@ use Rattle.machine_model.specs.Settle.{settled}
 use Rattle.machine_model.specs.Outcome.{place-in, answered}
 use Rattle.semantics.specs.Objects.{Store}
 use Rattle.semantics.specs.Sequences.{ends, also}
-use Rattle.semantics.specs.Reduction.{Kind, making, selecting, updating, cloning, letting}
+use Rattle.semantics.specs.Reduction.{Kind, making, selecting, updating, cloning, letting, WellFormedStore}
 use Rattle.semantics.specs.Frames.{Framed, waiting, Closes, closes}
 use Rattle.semantics.specs.Machine.{TreeStore, returning, loading, Label, τ, β, Transition, Run}
 use Rattle.semantics.specs.Machine as tree
@@ -156,7 +156,7 @@ module _ (T : Text) (Λ : Limits) (A : ℕ) where
           record {
             trial = subst (λ y. TrialStands T (s .cells) (m .objects ++ (o ∷ [])) (unloadStore y) (m .trial) (trial-after k (unloadStore y) θ)) (sym (x .1))
                 (trial-adds T (s .cells) (m .objects) σ o (x .0) (x .2)
-                (subst (λ y. Rattle.semantics.specs.Reduction.WellFormedStore (length (unloadStore y)) (unloadStore y)) (x .1) wf) (m .trial) θ k a (h .trial));
+                (subst (λ y. WellFormedStore (length (unloadStore y)) (unloadStore y)) (x .1) wf) (m .trial) θ k a (h .trial));
             cells-are = cells-adds k a (length (s .cells));
             cells-kept = h .kept .cells-kept;
             objects-kept = omega (arith, new-length, b₁, h .object-limit-is);

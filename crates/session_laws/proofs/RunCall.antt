@@ -33,7 +33,7 @@ use Rattle.machine_laws.specs.Running.{Runs}
 use Rattle.machine_laws.proofs.Running.{runs-stand}
 use Rattle.machine_laws.proofs.Ways.{way-progress}
 use Rattle.session_laws.specs.Sessions.{Session, with-machine, answer, Leaves}
-use Rattle.session_laws.specs.Agreement.{Begun, ProgramAgrees, Agrees, TransitsIf}
+use Rattle.session_laws.specs.Agreement.{Begun, ProgramAgrees, Agrees, TransitsIf, report-in}
 use Rattle.session_laws.specs.Main.{Answered}
 use Rattle.session_laws.proofs.Compiling.{says}
 use Rattle.session_laws.proofs.Following.{config-at, Holds, follows, ends-so}
@@ -44,7 +44,7 @@ progress-of (stop.Done v) s = refl
 progress-of stop.Paused s = refl
 progress-of (stop.Refused f) s = refl
 
-reported-in : (c : Stop) (s : State) → Rattle.session_laws.specs.Agreement.report-in (answered c s) ≡ Some (s .registers .report)
+reported-in : (c : Stop) (s : State) → report-in (answered c s) ≡ Some (s .registers .report)
 reported-in (stop.Done v) s = refl
 reported-in stop.Paused s = refl
 reported-in (stop.Refused f) s = refl

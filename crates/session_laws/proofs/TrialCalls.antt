@@ -12,7 +12,7 @@ use Rattle.std.specs.declared.option.Option.the-variants.{Some, None}
 use Rattle.std.specs.declared.result.Result.{Result}
 use Rattle.std.specs.declared.result.Result.the-variants.{Ok, Err}
 use Rattle.calculus.specs.Places.{if-some}
-use Rattle.calculus.specs.Terms.{Term}
+use Rattle.calculus.specs.Terms.{Term, Within}
 use Rattle.calculus.specs.Text.{Text}
 use Rattle.store.specs.declared.closures.OldMethod.{OldMethod}
 use Rattle.store.specs.Meaning.{Meaning, Object, Trial, no-trial, closed, opened, overrun}
@@ -28,7 +28,7 @@ use Rattle.semantics.specs.Objects.{Store}
 use Rattle.semantics.specs.Reduction.{Kind, WellFormedStore}
 use Rattle.semantics.specs.Frames.{framed}
 use Rattle.semantics.specs.Machine.{TreeStore}
-use Rattle.semantics.specs.Unloading.{unloadStore}
+use Rattle.semantics.specs.Unloading.{unloadStore, unload}
 use Rattle.reference.specs.Configurations.{Limits, sizes, RefTrial, absent, shut, on-trial, Config, config, objects-of, trial-of}
 use Rattle.reference.specs.Answers.{Kept}
 use Rattle.reference.specs.States.{Reference, with-now}
@@ -65,7 +65,7 @@ module _ (s : Session) (R : Reference) (a : Agrees s R) where
       let w = b .standing .well-formed in
       record {
         state = b .state;
-        standing = record { stands = b .standing .stands; store-stands = hs; well-formed = record { closed = w .closed; within = subst (λ n. Rattle.calculus.specs.Terms.Within n (Rattle.semantics.specs.Unloading.unload (b .state))) (sym e) (w .within); objects = hd } };
+        standing = record { stands = b .standing .stands; store-stands = hs; well-formed = record { closed = w .closed; within = subst (λ n. Within n (unload (b .state))) (sym e) (w .within); objects = hd } };
         since = b .since;
         framed-is = b .framed-is;
         frames-kept = b .frames-kept;
