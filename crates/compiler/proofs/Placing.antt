@@ -70,7 +70,7 @@ pub record Within (c r : Counts) : Type 0 where
   pub operations : c .operations ≤ r .operations
   pub methods : c .methods ≤ r .methods
 
-within-is : (c r : Counts) → within c r ≡ true → Within c r
+pub within-is : (c r : Counts) → within c r ≡ true → Within c r
 within-is c r h =
     let a = both (leb (c .contents) (r .contents)) _ h in
     let b = both (leb (c .operations) (r .operations)) _ (a .1) in
@@ -90,7 +90,7 @@ same-counts a b p q r =
     ∙ ap (λ (n : ℕ). record { contents = b .contents; operations = b .operations; methods = n }) r
 
 -- the counts are those of what is used
-lengths-used : (t : Tables) (c : Counts) → Within c (rooms t) → lengths (used t c) ≡ c
+pub lengths-used : (t : Tables) (c : Counts) → Within c (rooms t) → lengths (used t c) ≡ c
 lengths-used t c w =
     same-counts (lengths (used t c)) c
     (length-take-le (c .contents) (now (t .contents)) (omega (arith, w .contents)))
@@ -212,6 +212,7 @@ module _ (rows : List Row) (g : ℕ) (t : Tables) (c R : Counts) (z : Sizes) (er
 
       pub left : Compiled rows g (c .contents) t c u d
       left = record {
+        number = refl;
         term = (acc .0, acc .1);
         appended = whole;
         moved = λ x w. moved ∙ ap (moved-by c) (sizes-of x w);

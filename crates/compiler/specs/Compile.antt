@@ -40,6 +40,8 @@ answer rows g t c = cond (within c (rooms t)) (placed (rooms t) c (verdict rows 
 
 -- compiled under the number n, from tables t with counts c to tables u with counts d
 pub record Compiled (rows : List Row) (g n : ℕ) (t : Tables) (c : Counts) (u : Tables) (d : Counts) : Type 0 where
+  -- the number is how many lists there were
+  pub number : n ≡ c .contents
   -- the rows are those of a term within the limits
   pub term : (x : Term) × Writes rows g x
   -- its layout is appended to what is used, and the counts are moved by what it takes

@@ -1,12 +1,15 @@
 -- The laws of the layout.
 use mathlib.Core.Path.{_≡_}
+use mathlib.Core.Bool.{true}
 use mathlib.Core.List.{List, [], _∷_}
 use Prim.Native.Nat.{ℕ}
 use lib.ListN.{length}
 use Rattle.calculus.specs.declared.code.Counts.{Counts}
 use Rattle.calculus.specs.declared.code.ListEntry.{ListEntry}
 use Rattle.calculus.specs.declared.code.Operation.the-variants as op
+use Rattle.calculus.specs.declared.rows.Row.{Row}
 use Rattle.calculus.specs.Terms.{Term, var, object, select, update, bind, nil, method}
+use Rattle.calculus.specs.Rows.{Is, fits}
 use Rattle.calculus.specs.Sizes.{term-sizes}
 use Rattle.calculus.specs.Trees.{Code, trans, done}
 use Rattle.calculus.specs.Text.{Text, joined}
@@ -30,6 +33,10 @@ pub record Takes (u : Counts) (g : ℕ) (t : Term) : Type 0 where
 
 abbrev pub LayoutSizes : Type 0
 LayoutSizes = (u : Counts) (g : ℕ) (t : Term) → Takes u g t
+
+-- a table is the rows of one term at most, so that it has one layout
+abbrev pub OneTerm : Type 0
+OneTerm = (rows : List Row) (t u : Term) (g h : ℕ) → Is rows t → fits t 1 g ≡ true → Is rows u → fits u 1 h ≡ true → t ≡ u
 
 abbrev entry : ℕ → ℕ → ℕ → ListEntry
 entry f n m = record { first = f; len = n; mark = m }

@@ -14,7 +14,7 @@ use Rattle.listing.specs.declared.pending.Pending.{Pending}
 use Rattle.calculus.specs.declared.refusals.Refusal.{Refusal}
 use Rattle.calculus.specs.Text.{Text}
 use Rattle.listing.specs.Steps.{step-of}
-use Rattle.listing.specs.Listing.{State, Room, begun, carried, going, turn-on, walked}
+use Rattle.listing.specs.Listing.{State, Room, Answer, begun, carried, going, turn-on, walked}
 use Rattle.listing.specs.Cost.{load, cost}
 use Rattle.listing.specs.Areas.{row-room, rooms, state-of, Wrote}
 use Rattle.listing.proofs.Costs.{Turned, turned-cheaper, Begun, begun-cheaper}
@@ -37,56 +37,62 @@ pub same-rooms : (rows rows′ : List Row) (a b : ℕ) → row-room rows ≡ row
 same-rooms rows rows′ a b p q = ap (λ (k : ℕ). room-of k a) p ∙ ap (λ (k : ℕ). room-of (row-room rows′) k) q
 
 -- a turn that the code makes, after it took p from the stack
-module _ (T : Text) (from : ℕ) (rows₀ : List Row) (stack₀ : Stack Pending) (at : ℕ) (rows : List Row) (stack : Stack Pending) (g : Going T from rows₀ stack₀ at rows stack) (long : row-room rows ≡ row-room rows₀) where
+module _ {T : Text} {from : ℕ} {rows₀ : List Row} {stack₀ : Stack Pending} {at : ℕ} {rows : List Row} {stack : Stack Pending} (g : Going T from rows₀ stack₀ at rows stack) (long : row-room rows ≡ row-room rows₀) where
   abbrev m : Room
   m = rooms rows₀ stack₀
 
-  pub ended : held stack ≡ [] → Some (Ok (take at rows)) ≡ walked (2 * row-room rows₀ + 1) T m (state-of from rows₀ stack₀)
+  abbrev Walk : Answer
+  Walk = walked (2 * row-room rows₀ + 1) T m (state-of from rows₀ stack₀)
+
+  pub ended : held stack ≡ [] → Some (Ok (take at rows)) ≡ Walk
   ended e = sym (walked-end T m (g .turns) (state-of at rows stack) e (omega (arith, g .enough))) ∙ g .same
 
-  module _ (p : Pending) (ps : List Pending) (taken : held stack ≡ p ∷ ps) where
-    within : length (take at rows) ≤ row-room rows₀
-    within = let n = length-used at rows (g .wrote .within) in omega (arith, g .wrote .within)
+  module _ {p : Pending} (rest : Stack Pending) (taken : held stack ≡ p ∷ held rest) (kept : room rest ≡ room stack) where
+    -- with the rooms as they are now, and as they were lent
+    abbrev Turn : Result State Refusal
+    Turn = carried T (rooms rows rest) (take at rows) p (held rest) (step-of T p)
 
-    listed : length (p ∷ ps) ≤ room stack₀
-    listed = let n = ap length taken in omega (arith, g .free, g .room-kept)
+    abbrev Lent : Result State Refusal
+    Lent = carried T m (take at rows) p (held rest) (step-of T p)
 
-    -- the rooms are as they were lent
-    pub as-lent : (stack₁ : Stack Pending) → room stack₁ ≡ room stack → carried T (rooms rows stack₁) (take at rows) p ps (step-of T p) ≡ carried T m (take at rows) p ps (step-of T p)
-    as-lent stack₁ r = ap (λ (k : Room). carried T k (take at rows) p ps (step-of T p)) (same-rooms rows rows₀ (room stack₁) (room stack₀) long (r ∙ g .room-kept))
+    as-lent : Turn ≡ Lent
+    as-lent = ap (λ (k : Room). carried T k (take at rows) p (held rest) (step-of T p)) (same-rooms rows rows₀ (room rest) (room stack₀) long (kept ∙ g .room-kept))
 
-    pub turned : (s : State) → Ok s ≡ carried T m (take at rows) p ps (step-of T p) → Turned T m (take at rows) p ps s
-    turned s e = turned-cheaper T m (take at rows) p ps s within listed (sym e)
+    turned : (s : State) → Ok s ≡ Turn → Turned T m (take at rows) p (held rest) s
+    turned s e =
+        let n = length-used at rows (g .wrote .within) in
+        let l = ap length taken in
+        turned-cheaper T m (take at rows) p (held rest) s (omega (arith, g .wrote .within)) (omega (arith, g .free, g .room-kept)) (sym (e ∙ as-lent))
 
-    pub falls : (s : State) → Ok s ≡ carried T m (take at rows) p ps (step-of T p) → cost T m s < cost T m (state-of at rows stack)
+    pub falls : (s : State) → Ok s ≡ Turn → cost T m s < cost T m (state-of at rows stack)
     falls s e =
         let t = turned s e .cheaper in
-        let l : load T (held stack) ≡ load T (p ∷ ps) = ap (load T) taken in
+        let l : load T (held stack) ≡ load T (p ∷ held rest) = ap (load T) taken in
         omega arith
 
-    same-on : (k : ℕ) → walked k T m (state-of at rows stack) ≡ walked (2 * row-room rows₀ + 1) T m (state-of from rows₀ stack₀) → 0 < k → going (carried T m (take at rows) p ps (step-of T p)) (walked (k - 1) T m) ≡ walked (2 * row-room rows₀ + 1) T m (state-of from rows₀ stack₀)
+    same-on : (k : ℕ) → walked k T m (state-of at rows stack) ≡ Walk → 0 < k → going Lent (walked (k - 1) T m) ≡ Walk
     same-on zero e h = absurd (omega arith)
     same-on (suc k) e h =
         let n : suc k - 1 ≡ k = omega arith in
-        ap (λ j. going (carried T m (take at rows) p ps (step-of T p)) (walked j T m)) n ∙ sym (walked-turn T m k (state-of at rows stack) p ps taken) ∙ e
+        ap (λ (j : ℕ). going Lent (walked j T m)) n ∙ sym (walked-turn T m k (state-of at rows stack) p (held rest) taken) ∙ e
 
-    same-next : going (carried T m (take at rows) p ps (step-of T p)) (walked (g .turns - 1) T m) ≡ walked (2 * row-room rows₀ + 1) T m (state-of from rows₀ stack₀)
-    same-next = same-on (g .turns) (g .same) (omega (arith, g .enough))
+    same-next : (r : Result State Refusal) → r ≡ Turn → going r (walked (g .turns - 1) T m) ≡ Walk
+    same-next r e = ap (λ (x : Result State Refusal). going x (walked (g .turns - 1) T m)) (e ∙ as-lent) ∙ same-on (g .turns) (g .same) (omega (arith, g .enough))
 
-    pub refused : (x : Refusal) → Err x ≡ carried T m (take at rows) p ps (step-of T p) → Some (Err x) ≡ walked (2 * row-room rows₀ + 1) T m (state-of from rows₀ stack₀)
-    refused x e = ap (λ c. going c (walked (g .turns - 1) T m)) e ∙ same-next
+    pub refused : (x : Refusal) → Err x ≡ Turn → Some (Err x) ≡ Walk
+    refused x e = same-next (Err x) e
 
-    pub going-on : (next : ℕ) (rows′ : List Row) (stack′ : Stack Pending) → Ok (state-of next rows′ stack′) ≡ carried T m (take at rows) p ps (step-of T p) → Wrote at next rows rows′ → room stack′ ≡ room stack₀ → Going T from rows₀ stack₀ next rows′ stack′
+    pub going-on : (next : ℕ) (rows′ : List Row) (stack′ : Stack Pending) → Ok (state-of next rows′ stack′) ≡ Turn → Wrote at next rows rows′ → room stack′ ≡ room rest → Going T from rows₀ stack₀ next rows′ stack′
     going-on next rows′ stack′ e w r =
         let t = turned (state-of next rows′ stack′) e in
         let f = falls (state-of next rows′ stack′) e in
         record {
           turns = g .turns - 1;
-          same = ap (λ c. going c (walked (g .turns - 1) T m)) e ∙ same-next;
+          same = same-next (Ok (state-of next rows′ stack′)) e;
           enough = omega (arith, g .enough, f);
           wrote = wrote-on from at next rows₀ rows rows′ (g .wrote) w;
-          free = omega (arith, t .lists, r);
-          room-kept = r;
+          free = omega (arith, t .lists, r, kept, g .room-kept);
+          room-kept = r ∙ kept ∙ g .room-kept;
         }
 
 -- a list begun on its own

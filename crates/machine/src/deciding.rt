@@ -2,11 +2,10 @@
 ghost use mathlib.Core.Path.{_≡_};
 ghost use Prim.Native.Nat.{ℕ, _+_, _≤_};
 ghost use lib.ListN.{length};
-ghost use Rattle.std.specs.Vec.{made};
 ghost use Rattle.store.specs.Meaning.{find-in, method-at};
 ghost use Rattle.calculus.specs.declared.values.Value.the-variants.{Location};
 ghost use Rattle.calculus.specs.Text.{text-of};
-ghost use Rattle.machine_model.specs.Reduce.{decided, by-store, labelled, selects-at, Stands};
+ghost use Rattle.machine_model.specs.Reduce.{decided, by-store, labelled, selects-at};
 use calculus::code::Code;
 use calculus::values::Value;
 use machine_model::answers::Fault;
@@ -17,8 +16,7 @@ use store::store::Store;
 
 /// What is to be done about a redex, but for the limits.
 pub(crate) fn decide<S: Store>(code: &Code<'_>, store: &S, redex: Redex) -> Result<Action, Fault>
-    ensures is { λ r. ⌜ r ≡ decided (text-of (now (code .entry))) (meaning (now (store .entry))) redex ⌝ }
-    ensures stands { λ r. ⌜ made r (λ a. Stands (text-of (now (code .entry))) a) ⌝ }
+    ensures { λ r. ⌜ r ≡ decided (text-of (now (code .entry))) (meaning (now (store .entry))) redex ⌝ }
 {
     match redex {
         Redex::Object { first, count } => {
@@ -60,8 +58,7 @@ pub(crate) fn decide<S: Store>(code: &Code<'_>, store: &S, redex: Redex) -> Resu
 
 /// The method that a select enters.
 fn decide_select<S: Store>(store: &S, location: u32, label: u16) -> Result<Action, Fault>
-    ensures is { λ r. ⌜ r ≡ by-store (find-in (meaning (now (store .entry))) location label) (λ o. labelled o (selects-at (meaning (now (store .entry))) location)) ⌝ }
-    ensures stands { λ r. ⌜ made r (λ a. (code : Rattle.calculus.specs.Text.Text) → Stands code a) ⌝ }
+    ensures { λ r. ⌜ r ≡ by-store (find-in (meaning (now (store .entry))) location label) (λ o. labelled o (selects-at (meaning (now (store .entry))) location)) ⌝ }
 {
     match store.find(location, label)? {
         Some(place) => {

@@ -8,9 +8,8 @@ ghost use Rattle.store.specs.Meaning.{make-result, made-by, clone-result, clone
 ghost use Rattle.calculus.specs.Held.{laid, held, room};
 ghost use Rattle.calculus.specs.Text.{text-of};
 ghost use Rattle.machine_model.specs.declared.steps.Action.the-variants.{Make, Call, Put, Copied, Bind};
-ghost use Rattle.machine_model.specs.Settle.{Sound};
-ghost use Rattle.machine_model.specs.Reduce.{Move, room-to-enter, entering, entered, valued, located, replaced, acted, entries-at, object-more, clone-more, update-more, Ready, OneMore, Stands};
-ghost use Rattle.machine.specs.Machine.{state-of};
+ghost use Rattle.machine_model.specs.Reduce.{room-to-enter, entering, entered, valued, located, replaced, acted, entries-at, object-more, clone-more, update-more, Ready, Stands};
+ghost use Rattle.machine.specs.Machine.{state-of, move-of};
 use crate::fetching::add_cell;
 use crate::machine::Machine;
 use calculus::code::Code;
@@ -28,10 +27,8 @@ use store::store::Store;
 impl<'a> Machine<'a> {
     /// Puts a value into the accumulator, past the operation at hand.
     fn take(&mut self, value: Value, report: Report)
-        requires ready { ⌜ Ready (state-of (now self)) ⌝ }
-        requires more { ⌜ OneMore (state-of (now self)) report ⌝ }
-        ensures state { λ _. ⌜ state-of (now (self .exit)) ≡ valued (state-of (now (self .entry))) value report ⌝ }
-        ensures sound { λ _. ⌜ Sound (state-of (now (self .exit))) ⌝ }
+        requires { ⌜ Ready (state-of (now self)) ⌝ }
+        ensures { λ _. ⌜ state-of (now (self .exit)) ≡ valued (state-of (now (self .entry))) value report ⌝ }
     {
         let Registers {
             at,
@@ -71,10 +68,8 @@ impl<'a> Machine<'a> {
     /// Enters a list over a new cell.
     fn go_in(&mut self, value: Value, env: u32, list: u32, report: Report)
         requires ready { ⌜ Ready (state-of (now self)) ⌝ }
-        requires more { ⌜ OneMore (state-of (now self)) report ⌝ }
         requires room { ⌜ (length (laid (now self .cells)) < room (now self .cells)) × (length (laid (now self .frames)) < room (now self .frames)) ⌝ }
-        ensures state { λ _. ⌜ state-of (now (self .exit)) ≡ entered (state-of (now (self .entry))) value env list report ⌝ }
-        ensures sound { λ _. ⌜ Sound (state-of (now (self .exit))) ⌝ }
+        ensures { λ _. ⌜ state-of (now (self .exit)) ≡ entered (state-of (now (self .entry))) value env list report ⌝ }
     {
         let Registers {
             at,
@@ -102,10 +97,8 @@ impl<'a> Machine<'a> {
     /// Enters a list over a new cell, if there is room.
     fn enter(&mut self, value: Value, env: u32, list: u32, report: Report) -> Result<(), Fault>
         requires ready { ⌜ Ready (state-of (now self)) ⌝ }
-        requires more { ⌜ OneMore (state-of (now self)) report ⌝ }
         ensures answer { λ r. ⌜ r ≡ room-to-enter (state-of (now (self .entry))) ⌝ }
         ensures state { λ r. ⌜ state-of (now (self .exit)) ≡ entering (state-of (now (self .entry))) value env list report ⌝ }
-        ensures sound { λ r. ⌜ Sound (state-of (now (self .exit))) ⌝ }
     {
         self.room_to_enter()?;
         self.go_in(value, env, list, report);
@@ -122,10 +115,7 @@ impl<'a> Machine<'a> {
     ) -> Result<(), Fault>
         requires ready { ⌜ Ready (state-of (now self)) ⌝ }
         requires stands { ⌜ first + count ≤ length (now (now code .methods)) ⌝ }
-        ensures answer { λ r. ⌜ r ≡ acted (text-of (now (code .entry))) (state-of (now (self .entry))) (meaning (now (store .entry))) (Make first count) .answer ⌝ }
-        ensures state { λ r. ⌜ state-of (now (self .exit)) ≡ acted (text-of (now (code .entry))) (state-of (now (self .entry))) (meaning (now (store .entry))) (Make first count) .state ⌝ }
-        ensures store { λ r. ⌜ meaning (now (store .exit)) ≡ acted (text-of (now (code .entry))) (state-of (now (self .entry))) (meaning (now (store .entry))) (Make first count) .store ⌝ }
-        ensures sound { λ r. ⌜ Sound (state-of (now (self .exit))) ⌝ }
+        ensures { λ r. ⌜ move-of r (now (self .exit)) (meaning (now (store .exit))) ≡ acted (text-of (now (code .entry))) (state-of (now (self .entry))) (meaning (now (store .entry))) (Make first count) ⌝ }
     {
         let report = self.registers.report;
         let env = self.registers.at.env;
@@ -146,10 +136,7 @@ impl<'a> Machine<'a> {
     /// Makes a copy of an object.
     fn copy<S: Store>(&mut self, store: &mut S, location: u32) -> Result<(), Fault>
         requires { ⌜ Ready (state-of (now self)) ⌝ }
-        ensures answer { λ r. ⌜ r ≡ located (state-of (now (self .entry))) (cloned-by (meaning (now (store .entry))) location) (clone-more (now (self .entry) .registers .report)) (clone-result (meaning (now (store .entry))) location) .answer ⌝ }
-        ensures state { λ r. ⌜ state-of (now (self .exit)) ≡ located (state-of (now (self .entry))) (cloned-by (meaning (now (store .entry))) location) (clone-more (now (self .entry) .registers .report)) (clone-result (meaning (now (store .entry))) location) .state ⌝ }
-        ensures store { λ r. ⌜ meaning (now (store .exit)) ≡ cloned-by (meaning (now (store .entry))) location ⌝ }
-        ensures sound { λ r. ⌜ Sound (state-of (now (self .exit))) ⌝ }
+        ensures { λ r. ⌜ move-of r (now (self .exit)) (meaning (now (store .exit))) ≡ located (state-of (now (self .entry))) (cloned-by (meaning (now (store .entry))) location) (clone-more (now (self .entry) .registers .report)) (clone-result (meaning (now (store .entry))) location) ⌝ }
     {
         let report = self.registers.report;
         let copy = store.clone_object(location)?;
@@ -173,10 +160,7 @@ impl<'a> Machine<'a> {
         list: u32,
     ) -> Result<(), Fault>
         requires { ⌜ Ready (state-of (now self)) ⌝ }
-        ensures answer { λ r. ⌜ r ≡ replaced (state-of (now (self .entry))) (meaning (now (store .exit))) location (update-more (now (self .entry) .registers .report)) (update-result (meaning (now (store .entry))) location place) .answer ⌝ }
-        ensures state { λ r. ⌜ state-of (now (self .exit)) ≡ replaced (state-of (now (self .entry))) (meaning (now (store .exit))) location (update-more (now (self .entry) .registers .report)) (update-result (meaning (now (store .entry))) location place) .state ⌝ }
-        ensures store { λ r. ⌜ meaning (now (store .exit)) ≡ updated (meaning (now (store .entry))) location place (record { list = list; env = now (self .entry) .registers .at .env }) ⌝ }
-        ensures sound { λ r. ⌜ Sound (state-of (now (self .exit))) ⌝ }
+        ensures { λ r. ⌜ move-of r (now (self .exit)) (meaning (now (store .exit))) ≡ replaced (state-of (now (self .entry))) (updated (meaning (now (store .entry))) location place (record { list = list; env = now (self .entry) .registers .at .env })) location (update-more (now (self .entry) .registers .report)) (update-result (meaning (now (store .entry))) location place) ⌝ }
     {
         let report = self.registers.report;
         let env = self.registers.at.env;
@@ -201,10 +185,7 @@ impl<'a> Machine<'a> {
     ) -> Result<(), Fault>
         requires ready { ⌜ Ready (state-of (now self)) ⌝ }
         requires stands { ⌜ Stands (text-of (now code)) action ⌝ }
-        ensures answer { λ r. ⌜ r ≡ acted (text-of (now (code .entry))) (state-of (now (self .entry))) (meaning (now (store .entry))) action .answer ⌝ }
-        ensures state { λ r. ⌜ state-of (now (self .exit)) ≡ acted (text-of (now (code .entry))) (state-of (now (self .entry))) (meaning (now (store .entry))) action .state ⌝ }
-        ensures store { λ r. ⌜ meaning (now (store .exit)) ≡ acted (text-of (now (code .entry))) (state-of (now (self .entry))) (meaning (now (store .entry))) action .store ⌝ }
-        ensures sound { λ r. ⌜ Sound (state-of (now (self .exit))) ⌝ }
+        ensures { λ r. ⌜ move-of r (now (self .exit)) (meaning (now (store .exit))) ≡ acted (text-of (now (code .entry))) (state-of (now (self .entry))) (meaning (now (store .entry))) action ⌝ }
     {
         let report = self.registers.report;
         match action {

@@ -3,9 +3,9 @@ ghost use mathlib.Core.Path.{_≡_};
 ghost use Prim.Native.Nat.{ℕ, _+_, _-_, _^_, _<_, _≤_};
 ghost use Rattle.calculus.specs.Text.{text-of};
 ghost use Rattle.machine_model.specs.Settle.{Sound, fits};
-ghost use Rattle.machine_model.specs.Run.{Ran, turn, run-for};
+ghost use Rattle.machine_model.specs.Run.{turn, run-for};
 ghost use Rattle.machine_model.specs.Outcome.{place-in, answered, over, progress-after, with-progress, run-text, run-outcome};
-ghost use Rattle.machine.specs.Machine.{state-of};
+ghost use Rattle.machine.specs.Machine.{state-of, turn-of, ran-of};
 use crate::deciding::decide;
 use crate::machine::Machine;
 use calculus::area::used_of;
@@ -31,10 +31,7 @@ impl<'a> Machine<'a> {
     /// Makes all that is due and then one reduction, of the `left` that may still be made.
     fn turn<S: Store>(&mut self, code: &Code<'_>, store: &mut S, left: u32) -> Result<(), Stop>
         requires { ⌜ Sound (state-of (now self)) ⌝ }
-        ensures answer { λ r. ⌜ r ≡ turn left (text-of (now (code .entry))) (state-of (now (self .entry))) (meaning (now (store .entry))) .answer ⌝ }
-        ensures state { λ r. ⌜ state-of (now (self .exit)) ≡ turn left (text-of (now (code .entry))) (state-of (now (self .entry))) (meaning (now (store .entry))) .state ⌝ }
-        ensures store { λ r. ⌜ meaning (now (store .exit)) ≡ turn left (text-of (now (code .entry))) (state-of (now (self .entry))) (meaning (now (store .entry))) .store ⌝ }
-        ensures sound { λ r. ⌜ Sound (state-of (now (self .exit))) ⌝ }
+        ensures { λ r. ⌜ turn-of r (now (self .exit)) (meaning (now (store .exit))) ≡ turn left (text-of (now (code .entry))) (state-of (now (self .entry))) (meaning (now (store .entry))) ⌝ }
     {
         let redex = self.settle(code)?;
         let action = decide(code, store, redex)?;
@@ -51,10 +48,7 @@ impl<'a> Machine<'a> {
     /// Runs until something stops it.
     fn work<S: Store>(&mut self, code: &Code<'_>, store: &mut S, n: u32) -> Stop
         requires { ⌜ Sound (state-of (now self)) ⌝ }
-        ensures answer { λ r. ⌜ r ≡ run-for n (text-of (now (code .entry))) (state-of (now (self .entry))) (meaning (now (store .entry))) .stop ⌝ }
-        ensures state { λ r. ⌜ state-of (now (self .exit)) ≡ run-for n (text-of (now (code .entry))) (state-of (now (self .entry))) (meaning (now (store .entry))) .state ⌝ }
-        ensures store { λ r. ⌜ meaning (now (store .exit)) ≡ run-for n (text-of (now (code .entry))) (state-of (now (self .entry))) (meaning (now (store .entry))) .store ⌝ }
-        ensures sound { λ r. ⌜ Sound (state-of (now (self .exit))) ⌝ }
+        ensures { λ r. ⌜ ran-of r (now (self .exit)) (meaning (now (store .exit))) ≡ run-for n (text-of (now (code .entry))) (state-of (now (self .entry))) (meaning (now (store .entry))) ⌝ }
     {
         let mut left = n;
         loop {

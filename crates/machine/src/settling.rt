@@ -49,7 +49,6 @@ impl<'a> Machine<'a> {
         requires { ⌜ Sound (state-of (now self)) ⌝ }
         ensures answer { λ r. ⌜ r ≡ rest (due (text-of (now (code .entry))) (settled (text-of (now (code .entry))) (state-of (now (self .entry))))) ⌝ }
         ensures state { λ r. ⌜ state-of (now (self .exit)) ≡ settled (text-of (now (code .entry))) (state-of (now (self .entry))) ⌝ }
-        ensures sound { λ r. ⌜ Sound (state-of (now (self .exit))) ⌝ }
         ensures short { λ r. ⌜ made r (λ _. now (self .exit) .registers .at .next + 1 < 2 ^ 32) ⌝ }
     {
         loop {

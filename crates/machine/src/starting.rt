@@ -1,15 +1,14 @@
 //! A machine, and the start of a program.
 ghost use mathlib.Core.Path.{_≡_};
-ghost use mathlib.Core.Bool.{true};
-ghost use Prim.Native.Nat.{ℕ, _+_, _≤_};
+ghost use mathlib.Core.List.{[], _∷_, _++_};
+ghost use Prim.Native.Nat.{ℕ, _+_, _≤_, _<_};
 ghost use lib.Dec.{leb};
 ghost use lib.ListN.{length};
 ghost use Rattle.std.specs.Vec.{made};
 ghost use Rattle.calculus.specs.Held.{counted, laid, room};
 ghost use Rattle.calculus.specs.Text.{text-of};
-ghost use Rattle.machine_model.specs.declared.state.Progress.the-variants as progress;
-ghost use Rattle.machine_model.specs.Start.{main-mark, givens-of, present, all-present, start-for, start-result, start-answer, start-state, started-if, cells-with, env-with, registers-at, begun, unused};
-ghost use Rattle.machine.specs.Machine.{state-of};
+ghost use Rattle.machine_model.specs.Start.{givens-of, present, all-present, start-for, start-result, start-answer, start-state, started-if, cells-with, env-with, registers-at, begun, unused};
+ghost use Rattle.machine.specs.Machine.{state-of, given-at};
 use crate::fetching::add_cell;
 use crate::machine::Machine;
 use calculus::area::used_of;
@@ -74,6 +73,23 @@ fn have_room(cells: &Stack<'_, Cell>, more: usize) -> bool
     used <= room && more <= room - used
 }
 
+/// Adds a cell with the given at a place, and answers the environment that begins with it.
+fn bind_given(cells: &mut Stack<'_, Cell>, givens: &[Value], place: usize, env: u32) -> u32
+    requires place { ⌜ place < length (now givens) ⌝ }
+    requires room { ⌜ length (laid (now cells)) < room (now cells) ⌝ }
+    ensures cells { λ _. ⌜ laid (now (cells .exit)) ≡ laid (now (cells .entry)) ++ (record { value = given-at (now (givens .entry)) place; parent = env } ∷ []) ⌝ }
+    ensures room { λ _. ⌜ room (now (cells .exit)) ≡ room (now (cells .entry)) ⌝ }
+    ensures env { λ r. ⌜ r ≡ length (laid (now (cells .entry))) + 1 ⌝ }
+{
+    add_cell(
+        cells,
+        Cell {
+            value: givens[place],
+            parent: env,
+        },
+    )
+}
+
 /// Puts the givens into cells, the last given first, and answers the environment that they make.
 fn bind_givens(cells: &mut Stack<'_, Cell>, givens: &[Value]) -> u32
     requires { ⌜ length (laid (now cells)) + length (now givens) ≤ room (now cells) ⌝ }
@@ -85,13 +101,7 @@ fn bind_givens(cells: &mut Stack<'_, Cell>, givens: &[Value]) -> u32
     let mut left = givens.len();
     while left > 0 {
         left -= 1;
-        env = add_cell(
-            cells,
-            Cell {
-                value: givens[left],
-                parent: env,
-            },
-        );
+        env = bind_given(cells, givens, left, env);
     }
     env
 }

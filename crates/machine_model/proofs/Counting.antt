@@ -28,8 +28,8 @@ use Rattle.machine_model.specs.declared.steps.Action.the-variants.{Make, Call,
 use Rattle.machine_model.specs.declared.steps.Due.{Due}
 use Rattle.machine_model.specs.declared.steps.Due.the-variants.{Fill, Return, Done, Astray, Reduce}
 use Rattle.machine_model.specs.State.{State, due}
-use Rattle.machine_model.specs.Settle.{filled, returned-to, vacant, slack, on-due, settled-for, settled, rest, reductions, owing, promised}
-use Rattle.machine_model.specs.Reduce.{Move, decided, acted, located, replaced, room-to-enter, if-ok, entered, enters, entries-at, object-more, select-more, update-more, clone-more, let-more, OneMore}
+use Rattle.machine_model.specs.Settle.{filled, returned-to, vacant, slack, on-due, settled-for, settled, rest, reductions, owing, promised, Sound}
+use Rattle.machine_model.specs.Reduce.{Move, decided, acted, located, replaced, room-to-enter, if-ok, entered, enters, entries-at, object-more, select-more, update-more, clone-more, let-more}
 use Rattle.machine_model.specs.Run.{Turn, turned, halted, or-stop, unless-stopped, allowed, at-rest, turn, Ran, followed, followed-by, run-for}
 use Rattle.machine_model.proofs.Settles.{due-fills-vacant}
 use Rattle.machine_model.proofs.Runs.{turn-none}
@@ -54,6 +54,10 @@ then-goes s t u i j f g =
       progress-same = g .progress-same ∙ f .progress-same;
     }
 
+-- bounds are kept
+pub sound-on : (s t : State) (n : ℕ) → Goes s t n → Sound s → Sound t
+sound-on s t n g h = record { transitions-fit = omega (arith, g .owing-less, h .transitions-fit); counts-fit = omega (arith, g .promised-same, h .counts-fit) }
+
 -- silent transitions
 goes-due : (k : ℕ) (code : Text) (s : State) → ((t : State) → Goes t (settled-for k code t) 0) → (d : Due) (fs : List Frame) → due code s ≡ d → s .frames ≡ fs → Goes s (on-due d s (settled-for k code)) 0
 goes-due k code s go (Fill v) fs h p =
@@ -71,12 +75,16 @@ goes-due k code s go (Done v) fs h p = stays s
 goes-due k code s go Astray fs h p = stays s
 goes-due k code s go (Reduce r) fs h p = stays s
 
-goes-settled : (k : ℕ) (code : Text) (s : State) → Goes s (settled-for k code s) 0
+pub goes-settled : (k : ℕ) (code : Text) (s : State) → Goes s (settled-for k code s) 0
 unfolding settled-for
 goes-settled zero code s = stays s
 goes-settled (suc k) code s = goes-due k code s (goes-settled k code) (due code s) (s .frames) refl refl
 
--- reductions
+-- reductions: the report r has one transition and one reduction more than that of s
+record OneMore (s : State) (r : Report) : Type 0 where
+  transitions-more : r .transitions ≡ s .registers .report .transitions + 1
+  counts-more : reductions r ≡ reductions (s .registers .report) + 1
+
 module _ {X F : Type 0} where
   abbrev pub made-by-answer : Result X F → ℕ
   made-by-answer (Ok x) = 1
@@ -109,7 +117,7 @@ goes-acted code s m (Put l q b) p = replaced-goes s (updated m l q (record { lis
 goes-acted code s m (Copied l) p = located-goes s (cloned-by m l) (clone-more (s .registers .report)) (clone-result m l) (record { transitions-more = refl; counts-more = omega arith }) p
 goes-acted code s m (Bind v b) p = enters-goes s v (s .registers .at .env) b (let-more (s .registers .report)) (room-to-enter s) (record { transitions-more = refl; counts-more = omega arith }) p
 
-abbrev Takes : State → Turn → Type 0
+abbrev pub Takes : State → Turn → Type 0
 Takes s t = Goes s (t .state) (made-by-answer (t .answer))
 
 turned-takes : (s : State) (v : Move) (o : Result Unit Fault) → v .answer ≡ o → Goes s (v .state) (made-by-answer (v .answer)) → Takes s (turned v)
@@ -135,7 +143,8 @@ unless-takes : {X : Type 0} (o : Result X Stop) (s : State) (m : Meaning) (go : 
 unless-takes (Ok x) s m go h = h x
 unless-takes (Err c) s m go h = stays s
 
-takes : (n : ℕ) (code : Text) (s : State) (m : Meaning) → Takes s (turn n code s m)
+-- a turn
+pub takes : (n : ℕ) (code : Text) (s : State) (m : Meaning) → Takes s (turn n code s m)
 takes n code s m =
     let t : State = settled code s in
     let g : Takes t (at-rest n code t m) =
@@ -143,6 +152,12 @@ takes n code s m =
     (λ r. unless-takes (or-stop (decided code m r)) t m (allowed n code t m) (λ a. allowed-takes code t m a (eqb n 0) (eqb (t .registers .allowance) 0) refl)) in
     let made : ℕ = made-by-answer (at-rest n code t m .answer) in
     subst (λ j. Goes s (at-rest n code t m .state) j) (zero-add made) (then-goes s t (at-rest n code t m .state) 0 made (goes-settled (slack s) code s) g)
+
+pub turn-sound : (n : ℕ) (code : Text) (s : State) (m : Meaning) (t : State) → t ≡ turn n code s m .state → Sound s → Sound t
+turn-sound n code s m t e h = subst Sound (sym e) (sound-on s (turn n code s m .state) (made-by-answer (turn n code s m .answer)) (takes n code s m) h)
+
+pub settled-sound : (code : Text) (s t : State) → t ≡ settled code s → Sound s → Sound t
+settled-sound code s t e h = subst Sound (sym e) (sound-on s (settled code s) 0 (goes-settled (slack s) code s) h)
 
 -- a run of n
 pub record Ends (n : ℕ) (s : State) (z : Ran) : Type 0 where

@@ -38,25 +38,23 @@ turn-none code s m e =
     let t : State = settled code s in
     stops (rest (due code t)) t m (λ r. unless-stopped (or-stop (decided code m r)) t m (allowed 0 code t m)) (λ r. stops (or-stop (decided code m r)) t m (allowed 0 code t m) (λ a q. let z : _≡_ {A = ℕ} 0 1 = cc in omega arith)) e
 
+abbrev pub made : State → Meaning → Turn
+made t k = record { answer = Ok tt; state = t; store = k }
+
 module _ (code : Text) (s : State) (m : Meaning) where
-  pub run-on : (n : ℕ) → Ok tt ≡ turn n code s m .answer → 0 < n → run-for (n - 1) code (turn n code s m .state) (turn n code s m .store) ≡ run-for n code s m
+  -- a reduction that is made was one of those left
+  pub one-left : (n : ℕ) (t : State) (k : Meaning) → made t k ≡ turn n code s m → 0 < n
+  one-left zero t k e = absurd (turn-none code s m (ap (λ x. x .answer) (sym e)))
+  one-left (suc n) t k e = omega arith
+
+  -- after a reduction the run goes on with one fewer
+  pub goes-on : (n : ℕ) (t : State) (k : Meaning) → made t k ≡ turn n code s m → run-for (n - 1) code t k ≡ run-for n code s m
   unfolding run-for
-  run-on zero e h = absurd (omega arith)
-  run-on (suc n) e h = ap (λ k. run-for k code (turn (suc n) code s m .state) (turn (suc n) code s m .store)) (sub-one (suc n)) ∙ ap (λ o. followed o (turn (suc n) code s m .state) (turn (suc n) code s m .store) (run-for n code)) e
+  goes-on zero t k e = absurd (turn-none code s m (ap (λ x. x .answer) (sym e)))
+  goes-on (suc n) t k e = ap (λ j. run-for j code t k) (sub-one (suc n)) ∙ ap (λ x. followed-by x (run-for n code)) e
 
-  pub run-end : (n : ℕ) (c : Stop) → Err c ≡ turn n code s m .answer → _≡_ {A = Ran} (record { stop = c; state = turn n code s m .state; store = turn n code s m .store }) (run-for n code s m)
+  -- and where a turn stops, so does it
+  pub stops-there : (n : ℕ) (t : State) (k : Meaning) (c : Stop) → halted t k c ≡ turn n code s m → _≡_ {A = Ran} (record { stop = c; state = t; store = k }) (run-for n code s m)
   unfolding run-for
-  run-end zero c e = ap (λ o. followed o (turn zero code s m .state) (turn zero code s m .store) (λ t k. record { stop = stop.Paused; state = t; store = k })) e
-  run-end (suc n) c e = ap (λ o. followed o (turn (suc n) code s m .state) (turn (suc n) code s m .store) (run-for n code)) e
-
-  positive : (n : ℕ) → Ok tt ≡ turn n code s m .answer → 0 < n
-  positive zero e = absurd (turn-none code s m (sym e))
-  positive (suc n) e = omega arith
-
-  pub run-on-as : (n : ℕ) (t : State) (k : Meaning) → Ok tt ≡ turn n code s m .answer → t ≡ turn n code s m .state → k ≡ turn n code s m .store → run-for (n - 1) code t k ≡ run-for n code s m
-  run-on-as n t k e ht hk = ap (λ x. run-for (n - 1) code x k) ht ∙ ap (λ x. run-for (n - 1) code (turn n code s m .state) x) hk ∙ run-on n e (positive n e)
-
-  pub run-end-as : (n : ℕ) (t : State) (k : Meaning) (c : Stop) → Err c ≡ turn n code s m .answer → t ≡ turn n code s m .state → k ≡ turn n code s m .store → _≡_ {A = Ran} (record { stop = c; state = t; store = k }) (run-for n code s m)
-  run-end-as n t k c e ht hk =
-      let at : State → Meaning → Ran = λ x y. record { stop = c; state = x; store = y } in
-      ap (λ x. at x k) ht ∙ ap (λ y. at (turn n code s m .state) y) hk ∙ run-end n c e
+  stops-there zero t k c e = ap (λ x. followed-by x (λ u j. record { stop = stop.Paused; state = u; store = j })) e
+  stops-there (suc n) t k c e = ap (λ x. followed-by x (run-for n code)) e

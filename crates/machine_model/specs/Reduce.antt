@@ -28,7 +28,7 @@ use Rattle.machine_model.specs.declared.steps.Redex.the-variants as redex
 use Rattle.machine_model.specs.declared.steps.Action.{Action}
 use Rattle.machine_model.specs.declared.steps.Action.the-variants.{Make, Call, Put, Copied, Bind}
 use Rattle.machine_model.specs.State.{State}
-use Rattle.machine_model.specs.Settle.{stepped, reductions, Sound}
+use Rattle.machine_model.specs.Settle.{stepped, Sound}
 
 module _ {X : Type 0} where
   -- what the store says, with its fault whole in the run's
@@ -151,8 +151,3 @@ pub record Ready (s : State) : Type 0 where
   pub sound : Sound s
   pub allowed : 0 < s .registers .allowance
   pub short : s .registers .at .next + 1 < 2 ^ 32
-
--- the report r has one transition and one reduction more than that of s
-pub record OneMore (s : State) (r : Report) : Type 0 where
-  pub transitions-more : r .transitions ≡ s .registers .report .transitions + 1
-  pub counts-more : reductions r ≡ reductions (s .registers .report) + 1

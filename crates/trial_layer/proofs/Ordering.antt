@@ -11,11 +11,14 @@ use Rattle.std.proofs.shelf.Tests.{cases-lt}
 use Rattle.std.specs.declared.option.Option.{Option}
 use Rattle.std.specs.declared.option.Option.the-variants.{Some, None}
 use Rattle.calculus.specs.Places.{if-some}
+use Rattle.calculus.specs.declared.code.MethodEntry.{MethodEntry}
 use Rattle.store.specs.declared.closures.OldMethod.{OldMethod}
 use Rattle.store.specs.Meaning.{Meaning, Trial, no-trial, closed, opened, overrun, noted}
+use Rattle.store_laws.specs.declared.runs.StoreCall.{StoreCall}
+use Rattle.store_laws.specs.Runs.{meaning-after}
 use Rattle.trial_layer.specs.declared.faults.TrialFault.{TrialFault}
-use Rattle.trial_layer.specs.Laws.{AllPlaced, InOrder, LayerCall, of-store, open-trial, keep-trial, put-back-trial, after-layer, layer-run, BooksInOrder}
-use Rattle.trial_layer.specs.Runs.{Call, after, updates-by}
+use Rattle.trial_layer.specs.Laws.{AllPlaced, InOrder, LayerCall, of-store, open-trial, keep-trial, put-back-trial, layer-after, layer-after-all, BooksInOrder}
+use Rattle.trial_layer.specs.Runs.{updates-by}
 use Rattle.trial_layer.specs.Trials.{with-trial, trial-opened, is-open, back-fault, undone}
 use Rattle.trial_layer.proofs.Booking.{booked}
 use Rattle.trial_layer.proofs.Running.{unaltered}
@@ -27,20 +30,20 @@ Good m = (n : ℕ) (notes : List OldMethod) → m .trial ≡ opened n notes → 
 not-open : {A : Type 0} {n k : ℕ} {notes : List OldMethod} {t : Trial} → t ≡ closed k → t ≡ opened n notes → A
 not-open h e = let z : _≡_ {A = ℕ} 0 1 = cc in absurd (omega arith)
 
-after-store : (m : Meaning) (t : Trial) → m .trial ≡ t → Good m → (c : Call) → Good (after m c)
-after-store m no-trial h g c n notes e = let s = unaltered m c (λ old. ap (noted old) h ∙ sym h) in let z : _≡_ {A = ℕ} 0 1 = cc in absurd (omega arith)
-after-store m (closed k) h g c n notes e = not-open (unaltered m c (λ old. ap (noted old) h ∙ sym h) ∙ h) e
-after-store m (overrun k) h g c n notes e = let s = unaltered m c (λ old. ap (noted old) h ∙ sym h) in let z : _≡_ {A = ℕ} 0 1 = cc in absurd (omega arith)
-after-store m (opened k old) h g c n notes e =
-    let b = booked m k old h (g k old h .0) (g k old h .1) c in
+after-store : (table : List MethodEntry) (m : Meaning) (t : Trial) → m .trial ≡ t → Good m → (c : StoreCall) → Good (meaning-after table m c)
+after-store table m no-trial h g c n notes e = let s = unaltered table m c (λ old. ap (noted old) h ∙ sym h) in let z : _≡_ {A = ℕ} 0 1 = cc in absurd (omega arith)
+after-store table m (closed k) h g c n notes e = not-open (unaltered table m c (λ old. ap (noted old) h ∙ sym h) ∙ h) e
+after-store table m (overrun k) h g c n notes e = let s = unaltered table m c (λ old. ap (noted old) h ∙ sym h) in let z : _≡_ {A = ℕ} 0 1 = cc in absurd (omega arith)
+after-store table m (opened k old) h g c n notes e =
+    let b = booked table m k old h (g k old h .0) (g k old h .1) c in
     ⊎-elim
     (λ many. let s = b .overruns many in let z : _≡_ {A = ℕ} 0 1 = cc in absurd (omega arith))
     (λ room.
     let those = b .notes-it room .0 in
     let now = b .notes-it room .1 in
     let same : those ≡ notes = let s = now .trial-is in cc in
-    (subst (λ ns. AllPlaced (after m c .objects) ns) same (now .places), omega (arith, ap length same, now .counts)))
-    (cases-lt 256 (length old + updates-by m c))
+    (subst (λ ns. AllPlaced (meaning-after table m c .objects) ns) same (now .places), omega (arith, ap length same, now .counts)))
+    (cases-lt 256 (length old + updates-by table m c))
 
 after-open : (m : Meaning) (t : Trial) → m .trial ≡ t → Good m → Good (with-trial m (trial-opened t))
 after-open m no-trial h g n notes e = let z : _≡_ {A = ℕ} 0 1 = cc in absurd (omega arith)
@@ -60,20 +63,23 @@ after-put-back : (m : Meaning) (k : ℕ) (f : Option TrialFault) → Good m → 
 after-put-back m k None g n notes e = not-open refl e
 after-put-back m k (Some fault) g n notes e = g n notes e
 
-all-good : (m : Meaning) (calls : List LayerCall) → Good m → Good (layer-run m calls)
-all-good m [] g = g
-all-good m (of-store c ∷ calls) g = all-good (after m c) calls (after-store m (m .trial) refl g c)
-all-good m (open-trial ∷ calls) g = all-good (with-trial m (trial-opened (m .trial))) calls (after-open m (m .trial) refl g)
-all-good m (keep-trial k ∷ calls) g = all-good (cond (is-open (m .trial) k) (with-trial m (closed k)) m) calls (after-keep m k (is-open (m .trial) k) g)
-all-good m (put-back-trial k ∷ calls) g = all-good (if-some (back-fault (m .trial) k) (λ fault. m) (undone m k)) calls (after-put-back m k (back-fault (m .trial) k) g)
+all-good : (table : List MethodEntry) (m : Meaning) (calls : List LayerCall) → Good m → Good (layer-after-all table m calls)
+all-good table m [] g = g
+all-good table m (c ∷ calls) g = all-good table (layer-after table m c) calls (one c)
+  where
+    one : (c : LayerCall) → Good (layer-after table m c)
+    one (of-store x) = after-store table m (m .trial) refl g x
+    one open-trial = after-open m (m .trial) refl g
+    one (keep-trial k) = after-keep m k (is-open (m .trial) k) g
+    one (put-back-trial k) = after-put-back m k (back-fault (m .trial) k) g
 
 pub in-order : BooksInOrder
-in-order below calls n notes e =
-    let m = layer-run (with-trial below (closed 0)) calls in
-    let g = all-good (with-trial below (closed 0)) calls (λ k ns q. not-open refl q) n notes e in
+in-order below table calls n notes e =
+    let m = layer-after-all table (with-trial below (closed 0)) calls in
+    let g = all-good table (with-trial below (closed 0)) calls (λ k ns q. not-open refl q) n notes e in
     record {
       placed = g .0;
       few = g .1;
       enters = λ new. undo-front notes (m .objects) new (g .0);
-      books = booked m n notes e (g .0) (g .1);
+      books = λ t. booked t m n notes e (g .0) (g .1);
     }

@@ -15,13 +15,17 @@ use Rattle.std.specs.declared.option.Option.the-variants.{Some, None}
 use Rattle.std.specs.declared.result.Result.{Result}
 use Rattle.std.specs.declared.result.Result.the-variants.{Ok, Err}
 use Rattle.calculus.specs.Places.{if-some}
+use Rattle.calculus.specs.declared.code.MethodEntry.{MethodEntry}
 use Rattle.store.specs.declared.closures.OldMethod.{OldMethod}
 use Rattle.store.specs.Meaning.{Meaning, Object, Trial, no-trial, closed, opened, overrun, old-at, noted}
+use Rattle.store_laws.specs.declared.runs.StoreCall.{StoreCall}
+use Rattle.store_laws.specs.declared.runs.StoreCall.the-variants.{ObjectCount, ObjectLimit, MethodLimit, Size, MethodAt, Find, Make, Clone, Update}
+use Rattle.store_laws.specs.Runs.{meaning-after, meaning-after-all}
 use Rattle.trial_layer.specs.declared.faults.TrialFault.{TrialFault}
 use Rattle.trial_layer.specs.declared.faults.TrialFault.the-variants.{WrongToken, NoNumber, Overrun}
 use Rattle.trial_layer.specs.declared.token.Token.{Token}
 use Rattle.trial_layer.specs.Laws.{AllPlaced, Noted, Booked, InOrder, Back}
-use Rattle.trial_layer.specs.Runs.{Call, ask, make, clone, update, after, after-all, new-objects, made-in, updates-by, updates-in}
+use Rattle.trial_layer.specs.Runs.{new-objects, made-in, updates-by, updates-in}
 use Rattle.trial_layer.specs.Tokens.{token}
 use Rattle.trial_layer.specs.Trials.{trial-opened, open-result, opening, undo, notes-of, back-fault, back-result, put-back, undone}
 use Rattle.trial_layer.proofs.Booking.{booked}
@@ -31,38 +35,43 @@ unnoted : (t : Trial) → ((old : OldMethod) → noted old t ≡ t) → (x : Opt
 unnoted t h None = refl
 unnoted t h (Some old) = h old
 
-pub unaltered : (m : Meaning) (c : Call) → ((old : OldMethod) → noted old (m .trial) ≡ m .trial) → after m c .trial ≡ m .trial
-unaltered m ask h = refl
-unaltered m (make es env) h = refl
-unaltered m (clone l) h = refl
-unaltered m (update l p c) h = unnoted (m .trial) h (old-at (m .objects) l p)
+pub unaltered : (table : List MethodEntry) (m : Meaning) (c : StoreCall) → ((old : OldMethod) → noted old (m .trial) ≡ m .trial) → meaning-after table m c .trial ≡ m .trial
+unaltered table m ObjectCount h = refl
+unaltered table m ObjectLimit h = refl
+unaltered table m MethodLimit h = refl
+unaltered table m (Size l) h = refl
+unaltered table m (MethodAt l p) h = refl
+unaltered table m (Find l x) h = refl
+unaltered table m (Make f n env) h = refl
+unaltered table m (Clone l) h = refl
+unaltered table m (Update l p c) h = unnoted (m .trial) h (old-at (m .objects) l p)
 
-stays-overrun : (m : Meaning) (n : ℕ) (cs : List Call) → m .trial ≡ overrun n → after-all m cs .trial ≡ overrun n
-stays-overrun m n [] h = h
-stays-overrun m n (c ∷ cs) h = stays-overrun (after m c) n cs (unaltered m c (λ old. ap (noted old) h ∙ sym h) ∙ h)
+stays-overrun : (table : List MethodEntry) (m : Meaning) (n : ℕ) (cs : List StoreCall) → m .trial ≡ overrun n → meaning-after-all table m cs .trial ≡ overrun n
+stays-overrun table m n [] h = h
+stays-overrun table m n (c ∷ cs) h = stays-overrun table (meaning-after table m c) n cs (unaltered table m c (λ old. ap (noted old) h ∙ sym h) ∙ h)
 
 -- a run of a store's calls in an open trial with these notes
-pub record Ran (m : Meaning) (n : ℕ) (notes : List OldMethod) (cs : List Call) : Type 0 where
-  pub notes-them : length notes + updates-in m cs ≤ 256 → (those : List OldMethod) × (after-all m cs .trial ≡ opened n those) × (undo those (after-all m cs .objects) ≡ undo notes (m .objects) ++ made-in m cs)
-  pub overruns : 256 < length notes + updates-in m cs → after-all m cs .trial ≡ overrun n
+pub record Ran (table : List MethodEntry) (m : Meaning) (n : ℕ) (notes : List OldMethod) (cs : List StoreCall) : Type 0 where
+  pub notes-them : length notes + updates-in table m cs ≤ 256 → (those : List OldMethod) × (meaning-after-all table m cs .trial ≡ opened n those) × (undo those (meaning-after-all table m cs .objects) ≡ undo notes (m .objects) ++ made-in table m cs)
+  pub overruns : 256 < length notes + updates-in table m cs → meaning-after-all table m cs .trial ≡ overrun n
 
-pub ran : (m : Meaning) (n : ℕ) (notes : List OldMethod) (cs : List Call) → m .trial ≡ opened n notes → AllPlaced (m .objects) notes → length notes ≤ 256 → Ran m n notes cs
-ran m n notes [] is in-place few = record { notes-them = λ h. (notes, is, sym (append-nil (undo notes (m .objects)))); overruns = λ h. absurd (omega arith) }
-ran m n notes (c ∷ cs) is in-place few =
-    let b = booked m n notes is in-place few c in
+pub ran : (table : List MethodEntry) (m : Meaning) (n : ℕ) (notes : List OldMethod) (cs : List StoreCall) → m .trial ≡ opened n notes → AllPlaced (m .objects) notes → length notes ≤ 256 → Ran table m n notes cs
+ran table m n notes [] is in-place few = record { notes-them = λ h. (notes, is, sym (append-nil (undo notes (m .objects)))); overruns = λ h. absurd (omega arith) }
+ran table m n notes (c ∷ cs) is in-place few =
+    let b = booked table m n notes is in-place few c in
     ⊎-elim
-    (λ many. record { notes-them = λ h. absurd (omega arith); overruns = λ h. stays-overrun (after m c) n cs (b .overruns many) })
+    (λ many. record { notes-them = λ h. absurd (omega arith); overruns = λ h. stays-overrun table (meaning-after table m c) n cs (b .overruns many) })
     (λ room.
     let those = b .notes-it room .0 in
     let now = b .notes-it room .1 in
-    let rest = ran (after m c) n those cs (now .trial-is) (now .places) (omega (arith, now .counts)) in
+    let rest = ran table (meaning-after table m c) n those cs (now .trial-is) (now .places) (omega (arith, now .counts)) in
     record {
       notes-them = λ h.
           let end = rest .notes-them (omega (arith, now .counts)) in
-          (end .0, end .1, end .2 ∙ ap (λ os. os ++ made-in (after m c) cs) (now .leaves) ∙ append-assoc (undo notes (m .objects)) (new-objects m c) (made-in (after m c) cs));
+          (end .0, end .1, end .2 ∙ ap (λ os. os ++ made-in table (meaning-after table m c) cs) (now .leaves) ∙ append-assoc (undo notes (m .objects)) (new-objects table m c) (made-in table (meaning-after table m c) cs));
       overruns = λ h. rest .overruns (omega (arith, now .counts));
     })
-    (cases-lt 256 (length notes + updates-by m c))
+    (cases-lt 256 (length notes + updates-by table m c))
 
 -- an opening that was not refused
 pub opens : (t : Trial) (k : ℕ) → Ok (token k) ≡ open-result t → trial-opened t ≡ opened k []
@@ -76,16 +85,16 @@ opens (opened n notes) k h = let z : _≡_ {A = ℕ} 0 1 = cc in absurd (omega a
 opens (overrun n) k h = let z : _≡_ {A = ℕ} 0 1 = cc in absurd (omega arith)
 
 -- put back, by the token x, of the trial k that was opened at m, after a run of a store's calls
-module _ (m : Meaning) (k : ℕ) (calls : List Call) (was : Ok (token k) ≡ open-result (m .trial)) (e : Meaning) (is : e ≡ after-all (opening m) calls) (x : Token) (r : Result Unit (Token × TrialFault)) (told : r ≡ back-result (e .trial) x) (z : Meaning) (left : z ≡ put-back e (x .number)) where
-  whole : Ran (opening m) k [] calls
-  whole = ran (opening m) k [] calls (opens (m .trial) k was) tt (omega arith)
+module _ (table : List MethodEntry) (m : Meaning) (k : ℕ) (calls : List StoreCall) (was : Ok (token k) ≡ open-result (m .trial)) (e : Meaning) (is : e ≡ meaning-after-all table (opening m) calls) (x : Token) (r : Result Unit (Token × TrialFault)) (told : r ≡ back-result (e .trial) x) (z : Meaning) (left : z ≡ put-back e (x .number)) where
+  whole : Ran table (opening m) k [] calls
+  whole = ran table (opening m) k [] calls (opens (m .trial) k was) tt (omega arith)
 
-  open-now : updates-in (opening m) calls ≤ 256 → (those : List OldMethod) × (e .trial ≡ opened k those) × (undo those (e .objects) ≡ m .objects ++ made-in (opening m) calls)
+  open-now : updates-in table (opening m) calls ≤ 256 → (those : List OldMethod) × (e .trial ≡ opened k those) × (undo those (e .objects) ≡ m .objects ++ made-in table (opening m) calls)
   open-now few =
       let end = whole .notes-them (omega arith) in
       (end .0, ap (λ n. n .trial) is ∙ end .1, ap (λ n. undo (end .0) (n .objects)) is ∙ end .2)
 
-  overrun-now : 256 < updates-in (opening m) calls → e .trial ≡ overrun k
+  overrun-now : 256 < updates-in table (opening m) calls → e .trial ≡ overrun k
   overrun-now many = ap (λ n. n .trial) is ∙ whole .overruns (omega arith)
 
   answers : (f : Option TrialFault) → back-fault (e .trial) (x .number) ≡ f → r ≡ if-some f (λ fault. Err (x, fault)) (Ok tt)
@@ -94,7 +103,7 @@ module _ (m : Meaning) (k : ℕ) (calls : List Call) (was : Ok (token k) ≡ ope
   refused : {A : Type 0} (fault : TrialFault) → r ≡ Err (x, fault) → r ≡ Ok tt → A
   refused fault h g = let y : _≡_ {A = ℕ} 0 1 = cc in absurd (omega arith)
 
-  others : (x .number ≡ k → ⊥) → Back m k calls x r z
+  others : (x .number ≡ k → ⊥) → Back table m k calls x r z
   others ne =
       let apart = ne-eqb k (x .number) (λ q. ne (sym q)) in
       let w : r ≡ Err (x, WrongToken) =
@@ -102,10 +111,10 @@ module _ (m : Meaning) (k : ℕ) (calls : List Call) (was : Ok (token k) ≡ ope
       (⊎-elim
       (λ many. ap (λ t. back-fault t (x .number)) (overrun-now many) ∙ cond-false _ _ _ apart)
       (λ few. ap (λ t. back-fault t (x .number)) (open-now few .1) ∙ cond-false _ _ _ apart)
-      (cases-lt 256 (updates-in (opening m) calls))) in
+      (cases-lt 256 (updates-in table (opening m) calls))) in
       record { wrong = λ h. w; too-many = λ h. absurd (ne h); accepted = λ h. absurd (ne h); restored = refused WrongToken w }
 
-  its-own : x .number ≡ k → Back m k calls x r z
+  its-own : x .number ≡ k → Back table m k calls x r z
   its-own eq =
       let same = eq-eqb k (x .number) (sym eq) in
       ⊎-elim
@@ -121,7 +130,7 @@ module _ (m : Meaning) (k : ℕ) (calls : List Call) (was : Ok (token k) ≡ ope
         accepted = λ h g. answers None none;
         restored = λ h. ap (λ n. n .objects) (left ∙ ap (λ f. if-some f (λ fault. e) (undone e (x .number))) none) ∙ ap (λ t. undo (notes-of t) (e .objects)) (now .1) ∙ now .2;
       })
-      (cases-lt 256 (updates-in (opening m) calls))
+      (cases-lt 256 (updates-in table (opening m) calls))
 
-  pub back : Back m k calls x r z
+  pub back : Back table m k calls x r z
   back = ⊎-elim its-own others (cases-eq (x .number) k)

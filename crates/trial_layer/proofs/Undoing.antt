@@ -1,7 +1,7 @@
 -- Undoing notes, the newest first.
 use mathlib.Core.List.{List, [], _∷_, _++_}
 use mathlib.Core.Path.{_≡_, refl, sym, ap, _∙_}
-use Prim.Native.Nat.{ℕ, zero, suc, _<_}
+use Prim.Native.Nat.{ℕ, zero, suc, _+_, _<_}
 use native.Mathlib.Omega.{arith}
 use lib.ListN.{length, take, set}
 use Rattle.std.proofs.shelf.Lists.{length-set, set-set, set-append-left}
@@ -13,7 +13,7 @@ use Rattle.store.specs.declared.closures.Method.{Method}
 use Rattle.store.specs.declared.closures.OldMethod.{OldMethod}
 use Rattle.store.specs.Meaning.{Meaning, Object, Trial, with-objects, put-closure, with-closure, updated}
 use Rattle.trial_layer.specs.Laws.{Placed, AllPlaced}
-use Rattle.trial_layer.specs.Trials.{with-trial, restore, undo}
+use Rattle.trial_layer.specs.Trials.{with-trial, restore, undo, undone-by}
 use Rattle.trial_layer.proofs.Entries.{never, nth-below, nth-front, nth-set, set-nth}
 
 undo-newest : (k : ℕ) (notes : List OldMethod) (old : OldMethod) (os : List Object) → Some old ≡ nth notes k → undo (take (suc k) notes) os ≡ undo (take k notes) (restore old os)
@@ -22,9 +22,10 @@ undo-newest zero (n ∷ notes) old os h = let e : n ≡ old = cc in ap (λ x. re
 undo-newest (suc k) (n ∷ notes) old os h = ap (restore n) (undo-newest k notes old os h)
 
 -- one turn of put back, under any trial
-pub undo-one : (m later : Meaning) (t : Trial) (notes : List OldMethod) (k i : ℕ) (old : OldMethod) → suc k ≡ i → Some old ≡ nth notes k → later ≡ updated m (old .location) (old .place) (old .closure) → with-objects (with-trial later t) (undo (take k notes) (later .objects)) ≡ with-objects (with-trial m t) (undo (take i notes) (m .objects))
-undo-one m later t notes k i old up h told =
-    ap (λ n. with-objects (with-trial n t) (undo (take k notes) (n .objects))) told ∙ ap (with-objects (with-trial m t)) (sym (undo-newest k notes old (m .objects) h) ∙ ap (λ j. undo (take j notes) (m .objects)) up)
+pub undo-one : (m later : Meaning) (t : Trial) (notes : List OldMethod) (k : ℕ) (old : OldMethod) → Some old ≡ nth notes k → later ≡ updated m (old .location) (old .place) (old .closure) → undone-by (take k notes) (with-trial later t) ≡ undone-by (take (k + 1) notes) (with-trial m t)
+undo-one m later t notes k old h told =
+    let up : suc k ≡ k + 1 = omega arith in
+    ap (λ n. undone-by (take k notes) (with-trial n t)) told ∙ ap (with-objects (with-trial m t)) (sym (undo-newest k notes old (m .objects) h) ∙ ap (λ j. undo (take j notes) (m .objects)) up)
 
 pub undo-push : (notes : List OldMethod) (old : OldMethod) (os : List Object) → undo (notes ++ old ∷ []) os ≡ undo notes (restore old os)
 undo-push [] old os = refl

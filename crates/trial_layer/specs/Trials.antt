@@ -10,7 +10,7 @@ use Rattle.std.specs.declared.result.Result.{Result}
 use Rattle.std.specs.declared.result.Result.the-variants.{Ok, Err}
 use Rattle.calculus.specs.Places.{if-some}
 use Rattle.store.specs.declared.closures.OldMethod.{OldMethod}
-use Rattle.store.specs.Meaning.{Meaning, Object, Trial, no-trial, closed, opened, overrun, put-closure}
+use Rattle.store.specs.Meaning.{Meaning, Object, Trial, no-trial, closed, opened, overrun, with-objects, put-closure}
 use Rattle.trial_layer.specs.declared.book.Book.{Book}
 use Rattle.trial_layer.specs.declared.faults.TrialFault.{TrialFault}
 use Rattle.trial_layer.specs.declared.faults.TrialFault.the-variants.{Open, NoNumber, WrongToken, Overrun}
@@ -77,6 +77,10 @@ abbrev pub undo : List OldMethod → List Object → List Object
 undo [] os = os
 undo (old ∷ notes) os = restore old (undo notes os)
 
+-- what is meant once these notes are undone
+abbrev pub undone-by : List OldMethod → Meaning → Meaning
+undone-by notes m = with-objects m (undo notes (m .objects))
+
 abbrev pub notes-of : Trial → List OldMethod
 notes-of no-trial = []
 notes-of (closed n) = []
@@ -99,7 +103,7 @@ abbrev pub back-result : Trial → Token → Result Unit (Token × TrialFault)
 back-result t x = if-some (back-fault t (x .number)) (λ fault. Err (x, fault)) (Ok tt)
 
 abbrev pub undone : Meaning → ℕ → Meaning
-undone m k = record { objects = as-put-back m; object-limit = m .object-limit; method-limit = m .method-limit; trial = closed k }
+undone m k = with-trial (undone-by (notes-of (m .trial)) m) (closed k)
 
 abbrev pub put-back : Meaning → ℕ → Meaning
 put-back m k = if-some (back-fault (m .trial) k) (λ fault. m) (undone m k)

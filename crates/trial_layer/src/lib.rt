@@ -6,6 +6,8 @@ pub mod layer;
 mod notes;
 mod pages;
 mod state;
+#[cfg(test)]
+mod tests;
 pub mod token;
 pub mod trial_store;
 pub mod trials;

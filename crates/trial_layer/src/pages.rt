@@ -2,7 +2,7 @@
 ghost use mathlib.Core.Bool.{Bool};
 ghost use mathlib.Core.Path.{_≡_};
 ghost use Prim.Native.Nat.{_<_};
-ghost use lib.ListN.{length};
+ghost use lib.ListN.{length, take};
 ghost use Rattle.std.specs.declared.option.Option.the-variants.{Some};
 ghost use Rattle.calculus.specs.Places.{nth};
 ghost use Rattle.store.specs.Meaning.{closed, noted};
@@ -44,7 +44,8 @@ impl Book {
 
     /// How many old methods it counts.
     pub fn len(&self) -> usize
-        ensures { λ r. ⌜ r ≡ length (written (now (self .entry))) ⌝ }
+        ensures count { λ r. ⌜ r ≡ length (written (now (self .entry))) ⌝ }
+        ensures all { λ r. ⌜ take r (written (now (self .entry))) ≡ written (now (self .entry)) ⌝ }
     {
         self.count
     }

@@ -1,10 +1,11 @@
 //! A layer's trials.
 ghost use mathlib.Core.Path.{_≡_};
-ghost use lib.ListN.{length};
-ghost use Rattle.store.specs.Meaning.{closed, with-objects};
+ghost use Prim.Native.Nat.{_+_, _<_};
+ghost use lib.ListN.{length, take};
+ghost use Rattle.store.specs.Meaning.{closed};
 ghost use Rattle.trial_layer.specs.Layers.{layer-meaning};
 ghost use Rattle.trial_layer.specs.Laws.{PutBack};
-ghost use Rattle.trial_layer.specs.Trials.{with-trial, open-result, opening, keep-result, kept, back-result, put-back, written, undo};
+ghost use Rattle.trial_layer.specs.Trials.{with-trial, open-result, opening, keep-result, kept, back-result, put-back, written, undone-by};
 use crate::book::Book;
 use crate::faults::TrialFault;
 use crate::layer::TrialLayer;
@@ -42,15 +43,32 @@ impl<S: Store> TrialLayer<S> {
         Ok(())
     }
 
+    /// Undoes the update at a place of the book: what the notes below it would undo from here, they and it would have undone before.
+    fn undo_note(&mut self, place: usize)
+        requires { ⌜ place < length (written (now self .book)) ⌝ }
+        ensures state { λ _. ⌜ undone-by (take place (written (now (self .entry) .book))) (layer-meaning (S·Store .meaning) (now (self .exit))) ≡ undone-by (take (place + 1) (written (now (self .entry) .book))) (layer-meaning (S·Store .meaning) (now (self .entry))) ⌝ }
+        ensures book { λ _. ⌜ now (self .exit) .book ≡ now (self .entry) .book ⌝ }
+    {
+        let old = self.book.note_at(place);
+        let _ = self.below.update(old.location, old.place, old.closure);
+    }
+
     /// Undoes every update of the open trial, the newest first.
-    fn undo_updates(&mut self)
-        ensures state { λ _. ⌜ layer-meaning (S·Store .meaning) (now (self .exit)) ≡ with-objects (layer-meaning (S·Store .meaning) (now (self .entry))) (undo (written (now (self .entry) .book)) (layer-meaning (S·Store .meaning) (now (self .entry)) .objects)) ⌝ }
+    fn undo_notes(&mut self)
+        ensures state { λ _. ⌜ layer-meaning (S·Store .meaning) (now (self .exit)) ≡ undone-by (written (now (self .entry) .book)) (layer-meaning (S·Store .meaning) (now (self .entry))) ⌝ }
         ensures book { λ _. ⌜ now (self .exit) .book ≡ now (self .entry) .book ⌝ }
     {
         for place in (0..self.book.len()).rev() {
-            let old = self.book.note_at(place);
-            let _ = self.below.update(old.location, old.place, old.closure);
+            self.undo_note(place);
         }
+    }
+
+    /// Undoes every update of the open trial and ends it.
+    fn undo_trial(&mut self)
+        ensures { λ _. ⌜ layer-meaning (S·Store .meaning) (now (self .exit)) ≡ with-trial (undone-by (written (now (self .entry) .book)) (layer-meaning (S·Store .meaning) (now (self .entry)))) (closed (now (self .entry) .book .last)) ⌝ }
+    {
+        self.undo_notes();
+        self.book.close(); // nothing in it is left to undo
     }
 
     /// Ends the trial and restores the old method of each of its updates, the newest first. Refused, it hands the token back.
@@ -63,8 +81,7 @@ impl<S: Store> TrialLayer<S> {
             return Err((token, fault));
         }
         let _ = token.spend();
-        self.undo_updates();
-        self.book.close(); // what it notes is undone
+        self.undo_trial();
         Ok(())
     }
 }

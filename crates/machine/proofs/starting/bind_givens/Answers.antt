@@ -12,7 +12,7 @@ loop-left-holds c = let h = none-bound (laid (c .args .cells .now)) (c .args .gi
 pub loop-left-again : need.loop-left-again
 loop-left-again c =
     let i = c .loop-left .inv in
-    let a = c .add-cell-env .ensures in
-    let h = one-bound (laid (c .args .cells .now)) (c .args .givens .now) (c .loop-left .left) _ (laid (c .loop-left .cells)) (laid (c .add-cell-env .last .cells)) (c .loop-left .env) (c .loop-left-test .taken) (i .4) (i .0) (i .1) (a .cells) in
+    let a = c .bind-given-env .ensures in
+    let h = one-bound (laid (c .args .cells .now)) (c .args .givens .now) (c .loop-left .left) _ (laid (c .loop-left .cells)) (laid (c .bind-given-env .last .cells)) (c .loop-left .env) (c .loop-left-test .taken) (i .4) (i .0) (i .1) (a .cells) in
     let l = ap length (a .cells) ∙ length-append (laid (c .loop-left .cells)) _ in
     (h .0, a .env ∙ h .1, omega (arith, l, a .room, i .2, c .loop-left-test .taken), a .room ∙ i .3, omega (arith, i .4))

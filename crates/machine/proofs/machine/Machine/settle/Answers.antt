@@ -27,14 +27,14 @@ loop-value-again c =
 pub returns-in-Done : need.returns-in-Done
 returns-in-Done c =
     let p = stopped (text-of (c .args .code .now)) (state-of (c .loop-value .self)) (state-of (c .args .self .now)) (Done (c .in-Done .value)) (c .in-Done .ensures tt .is) refl (c .loop-value .inv .0) in
-    record { answer = p .0; state = p .1; sound = c .loop-value .inv .1; short = tt }
+    record { answer = p .0; state = p .1; short = tt }
 
 pub returns-in-Astray : need.returns-in-Astray
 returns-in-Astray c =
     let p = stopped (text-of (c .args .code .now)) (state-of (c .loop-value .self)) (state-of (c .args .self .now)) Astray (c .in-Astray .ensures tt .is) refl (c .loop-value .inv .0) in
-    record { answer = p .0; state = p .1; sound = c .loop-value .inv .1; short = tt }
+    record { answer = p .0; state = p .1; short = tt }
 
 pub returns-in-Reduce : need.returns-in-Reduce
 returns-in-Reduce c =
     let p = stopped (text-of (c .args .code .now)) (state-of (c .loop-value .self)) (state-of (c .args .self .now)) (Reduce (c .in-Reduce .redex)) (c .in-Reduce .ensures tt .is) refl (c .loop-value .inv .0) in
-    record { answer = p .0; state = p .1; sound = c .loop-value .inv .1; short = c .in-Reduce .ensures tt .short refl }
+    record { answer = p .0; state = p .1; short = c .in-Reduce .ensures tt .short refl }

@@ -15,13 +15,13 @@ returns-in-Some g c =
     let x = c .args .token in
     let a : Err (x, c .in-Some .fault) ≡ back-result (e .trial) x = search needs in
     let s : e ≡ put-back e (x .number) = search needs in
-    record { answer = a; state = s; back = λ m k calls was is. back m k calls was e is x _ a e s }
+    record { answer = a; state = s; back = λ table m k calls was is. back table m k calls was e is x _ a e s }
 
 pub returns : need.returns
 returns g c =
     let e : Meaning = layer-meaning (g .S·Store .meaning) (c .args .self .now) in
     let x = c .args .token in
-    let z : Meaning = layer-meaning (g .S·Store .meaning) (record { below = c .undo-updates .last .self .below; book = c .close .last .self }) in
+    let z : Meaning = layer-meaning (g .S·Store .meaning) (c .undo-trial .last .self) in
     let a : Ok tt ≡ back-result (e .trial) x = search needs in
     let s : z ≡ put-back e (x .number) = search needs in
-    record { answer = a; state = s; back = λ m k calls was is. back m k calls was e is x _ a z s }
+    record { answer = a; state = s; back = λ table m k calls was is. back table m k calls was e is x _ a z s }

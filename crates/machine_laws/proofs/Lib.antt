@@ -1,0 +1,10 @@
+pub mod Fetching
+pub mod Silent
+pub mod Growing
+pub mod Functional
+pub mod Placing
+pub mod Judging
+pub mod Counting
+pub mod Ways
+pub mod Running
+pub mod Starting

@@ -1,0 +1,6 @@
+pub mod Standing
+pub mod Settling
+pub mod Once
+pub mod Reducing
+pub mod Running
+pub mod Starting

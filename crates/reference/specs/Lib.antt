@@ -1,0 +1,7 @@
+pub mod Reports
+pub mod Configurations
+pub mod Answers
+pub mod Compiling
+pub mod States
+pub mod Calls
+pub mod Laws

@@ -1,0 +1,15 @@
+pub mod Objects
+pub mod Sequences
+pub mod Instances
+pub mod Decomposing
+pub mod Faults
+pub mod WellFormed
+pub mod Framing
+pub mod Translating
+pub mod Simulation
+pub mod Statuses
+pub mod Settling
+pub mod Runs
+pub mod Counting
+pub mod Flattening
+pub mod Programs

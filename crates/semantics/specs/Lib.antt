@@ -1,0 +1,12 @@
+pub mod Objects
+pub mod Sequences
+pub mod Reduction
+pub mod Redexes
+pub mod Frames
+pub mod Machine
+pub mod Unloading
+pub mod Counts
+pub mod Lists
+pub mod Agreement
+pub mod Laws
+pub mod Examples

@@ -1,0 +1,11 @@
+pub mod Sizes
+pub mod Trialing
+pub mod Following
+pub mod Compiling
+pub mod CompileCall
+pub mod StartCall
+pub mod RunCall
+pub mod TrialCalls
+pub mod Calling
+pub mod Leaving
+pub mod Deciding

@@ -1,0 +1,5 @@
+pub mod Sessions
+pub mod Agreement
+pub mod Main
+pub mod Laws
+pub mod Areas
