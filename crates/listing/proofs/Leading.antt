@@ -7,7 +7,7 @@ use native.Mathlib.Nat.{add-zero}
 use native.Mathlib.Omega.{arith}
 use lib.Dec.{ltb, eqb}
 use lib.IntN.{pos}
-use lib.ListN.{length}
+use lib.ListN.{length, length-map}
 use borrow.Author.Tests.{lt-ltb, le-ltb, ne-eqb}
 use Rattle.std.specs.declared.option.Option.the-variants.{Some, None}
 use Rattle.std.specs.declared.result.Result.{Result}
@@ -237,12 +237,8 @@ lists-back T m n g t p h q =
 pub program-there : (T U : Text) (g : ℕ) (t : Term) → Program (joined (compiled T g t) U) (length (T .contents)) g (trans t done)
 program-there T U g t = program-more (compiled T g t) U (length (T .contents)) g (trans t done) (laid-out T g t)
 
-plain-long : (rows : List Row) → length (map plain rows) ≡ length rows
-plain-long [] = refl
-plain-long (r ∷ rs) = ap suc (plain-long rs)
-
-pub rows-long : (rows : List Row) (t : Term) → map plain rows ≡ rows-of t → length (rows-of t) ≡ length rows
-rows-long rows t is = sym (ap length is) ∙ plain-long rows
+rows-long : (rows : List Row) (t : Term) → map plain rows ≡ rows-of t → length (rows-of t) ≡ length rows
+rows-long rows t is = sym (ap length is) ∙ length-map rows plain
 
 pub round-trip : RoundTrip
 round-trip T U rows g t m is fit h l =
