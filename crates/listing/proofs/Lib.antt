@@ -6,3 +6,4 @@ pub mod Spines
 pub mod Nesting
 pub mod Leading
 pub mod Answering
+pub mod Extents

@@ -19,6 +19,7 @@ ghost use Rattle.listing.specs.Back.{answer, Gave};
 ghost use Rattle.listing.specs.Laws.{ListsBack, TwoHundred, RoundTrip};
 ghost use Rattle.listing.specs.Examples.{Worked};
 
+pub mod extent;
 pub mod pending;
 mod reading;
 mod turning;
