@@ -41,7 +41,7 @@ use Rattle.listing.proofs.Costs.{Turned, turned-cheaper, Begun, begun-cheaper}
 use Rattle.listing.proofs.Spines.{Spine, Entries, list-spine, own-rows, body-rows, rows-split, at, own-begun}
 use Rattle.listing.proofs.Nesting.{two-hundred}
 
-abbrev pend : ℕ → ℕ → ℕ → Pending
+abbrev pub pend : ℕ → ℕ → ℕ → Pending
 pend l j i = record { list = l; next = j; method = i }
 
 -- the method counter when a list ends
@@ -80,10 +80,10 @@ module _ (T : Text) (m : Room) where
   To t l k rows ps = Leads (at rows (pend l 0 0 ∷ ps)) (at (rows ++ body-rows t) (pend l k (last t) ∷ ps))
 
   module _ (l : ℕ) (e : ListEntry) (f : nth (T .contents) l ≡ Some e) where
-    step-found : (j i : ℕ) (o : Operation) → j < e .len → nth (T .operations) (e .first + j) ≡ Some o → step-of T (pend l j i) ≡ step-at T (pend l j i) o
+    pub step-found : (j i : ℕ) (o : Operation) → j < e .len → nth (T .operations) (e .first + j) ≡ Some o → step-of T (pend l j i) ≡ step-at T (pend l j i) o
     step-found j i o h g = ap (λ x. if-some x (step-in T (pend l j i)) step.Astray) f ∙ cond-true _ _ _ (lt-ltb j (e .len) h) ∙ ap (λ x. if-some x (step-at T (pend l j i)) step.Astray) g
 
-    step-ended : (j i : ℕ) → e .len ≤ j → step-of T (pend l j i) ≡ step.Ended
+    pub step-ended : (j i : ℕ) → e .len ≤ j → step-of T (pend l j i) ≡ step.Ended
     step-ended j i h = ap (λ x. if-some x (step-in T (pend l j i)) step.Astray) f ∙ cond-false _ _ _ (le-ltb j (e .len) h)
 
     -- the list begun and listed to its end

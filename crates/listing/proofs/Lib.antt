@@ -7,3 +7,4 @@ pub mod Nesting
 pub mod Leading
 pub mod Answering
 pub mod Extents
+pub mod Only

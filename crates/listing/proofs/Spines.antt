@@ -176,7 +176,7 @@ module _ (T : Text) (room l : ℕ) (e : ListEntry) where
   above : (j n : ℕ) → l < n → 0 < j → (ltb 0 j && ltb l n) ≡ true
   above j n h z = and-from (ltb 0 j) (ltb l n) (lt-ltb 0 j z) (lt-ltb l n h)
 
-  own-written : (k : ℕ) (t : Term) (rows : List Row) → Spine T l (e .first) k t → length rows + k ≤ room → written T room l e k rows ≡ Ok (rows ++ own-rows t)
+  pub own-written : (k : ℕ) (t : Term) (rows : List Row) → Spine T l (e .first) k t → length rows + k ≤ room → written T room l e k rows ≡ Ok (rows ++ own-rows t)
   own-written k (var i) rows s h = head k rows (op.Access i) (s .0) (s .1) refl h
   own-written k (val (Figure v)) rows s h = head k rows (op.Figure v) (s .0) (s .1) refl h
   own-written k (val (Location n)) rows s h = head k rows (op.Figure (pos 0)) (s .0) (s .1) refl h

@@ -1,0 +1,139 @@
+-- What lists back stands for a term, and has that term's rows.
+use mathlib.Core.Bool.{Bool, true, false, cond, _&&_}
+use mathlib.Core.List.{List, [], _∷_, _++_}
+use mathlib.Core.Path.{_≡_, refl, sym, ap, subst, _∙_}
+use Prim.Native.Nat.{ℕ, zero, suc, _+_, _-_, _*_, _<_, _≤_}
+use native.Mathlib.Nat.{add-zero}
+use native.Mathlib.Omega.{arith}
+use lib.Dec.{ltb, leb, eqb}
+use lib.IntN.{pos}
+use lib.ListN.{length}
+use borrow.Author.Tests.{ltb-true, ltb-false, leb-true, eqb-true, eqb-false, lt-ltb, le-ltb}
+use Rattle.std.specs.declared.option.Option.{Option}
+use Rattle.std.specs.declared.option.Option.the-variants.{Some, None}
+use Rattle.std.specs.declared.result.Result.{Result}
+use Rattle.std.specs.declared.result.Result.the-variants.{Ok, Err}
+use Rattle.std.proofs.shelf.Lists.{length-append, append-assoc, append-nil}
+use Rattle.std.proofs.shelf.Tests.{and-parts, cond-true, cond-false}
+use Rattle.calculus.specs.declared.code.Operation.{Operation}
+use Rattle.calculus.specs.declared.code.Operation.the-variants as op
+use Rattle.calculus.specs.declared.code.ListEntry.{ListEntry}
+use Rattle.calculus.specs.declared.code.MethodEntry.{MethodEntry}
+use Rattle.calculus.specs.declared.rows.Row.{Row}
+use Rattle.calculus.specs.declared.refusals.Refusal.{Refusal}
+use Rattle.calculus.specs.declared.refusals.Refusal.the-variants.{NoProgram, Astray, StackFull, RowsShort}
+use Rattle.calculus.specs.declared.values.Value.the-variants.{Figure, Location}
+use Rattle.calculus.specs.Places.{nth, if-some}
+use Rattle.calculus.specs.Terms.{Term, var, val, object, select, update, clone, bind, Methods, nil, method}
+use Rattle.calculus.specs.Rows.{many, rows-of, method-rows}
+use Rattle.calculus.specs.Trees.{Rest, done, selectOp, updateOp, cloneOp, letOp, trans, transAll}
+use Rattle.calculus.specs.Text.{Text}
+use Rattle.calculus.specs.Standing.{Listed, Named, CodeAt, RestAt, BodiesAt, Program}
+use Rattle.listing.specs.declared.pending.Pending.{Pending}
+use Rattle.listing.specs.declared.pending.Step.{Step}
+use Rattle.listing.specs.declared.pending.Step.the-variants as step
+use Rattle.listing.specs.Steps.{row-of, proper, row-at, method-row, method-step, step-at, step-in, step-of}
+use Rattle.listing.specs.Listing.{State, Room, Answer, then, put, written, pushed, fresh, begun-from, begun, carried, going, walked, listed-whole, listed}
+use Rattle.listing.proofs.Costs.{put-longer, written-longer, Begun, begun-cheaper}
+use Rattle.listing.proofs.Spines.{Spine, Entries, own-rows, body-rows, rows-split, own-written, at}
+use Rattle.listing.proofs.Leading.{pend, step-found, step-ended}
+
+-- a spine stands for the tree of its term
+module _ (T : Text) where
+  named-code : (l n : ℕ) (b : Term) → ((e : ListEntry) → Spine T n (e .first) (e .len) b → CodeAt T n (e .first) (e .first + e .len) (trans b done)) →
+      Named T l n (λ e. Spine T n (e .first) (e .len) b) → Named T l n (λ e. CodeAt T n (e .first) (e .first + e .len) (trans b done))
+  named-code l n b f h = let g = h .listed in record { above = h .above; listed = record { entry = g .entry; found = g .found; holds = f (g .entry) (g .holds) } }
+
+  at-head : (l p k q : ℕ) (r : Rest) → k ≡ 1 → RestAt T l (p + k) q r → RestAt T l (suc p) q r
+  at-head l p k q r n h = let z : p + k ≡ suc p = omega arith in subst (λ (x : ℕ). RestAt T l x q r) z h
+
+  at-next : (l p j k q : ℕ) (r : Rest) → k ≡ suc j → RestAt T l (p + k) q r → RestAt T l (suc (p + j)) q r
+  at-next l p j k q r n h = let z : p + k ≡ suc (p + j) = omega arith in subst (λ (x : ℕ). RestAt T l x q r) z h
+
+  mutual
+    code-of : (t : Term) (l p k q : ℕ) (r : Rest) → Spine T l p k t → RestAt T l (p + k) q r → CodeAt T l p q (trans t r)
+    code-of (var i) l p k q r s h = (s .1, at-head l p k q r (s .0) h)
+    code-of (val (Figure v)) l p k q r s h = (s .1, at-head l p k q r (s .0) h)
+    code-of (val (Location n)) l p k q r s h = (s .1, at-head l p k q r (s .0) h)
+    code-of (object ms) l p k q r s h = (s .0, many ms, s .2, bodies-of ms l (s .0) (s .3) (s .4), at-head l p k q r (s .1) h)
+    code-of (select t x) l p k q r s h = code-of t l p (s .0) q (selectOp x r) (s .3) (s .2, at-next l p (s .0) k q r (s .1) h)
+    code-of (update t x b) l p k q r s h =
+        code-of t l p (s .0) q (updateOp x (trans b done) r) (s .5) (s .1, s .3, named-code l (s .1) b (λ e g. code-of b (s .1) (e .first) (e .len) (e .first + e .len) done g refl) (s .4), at-next l p (s .0) k q r (s .2) h)
+    code-of (clone t) l p k q r s h = code-of t l p (s .0) q (cloneOp r) (s .3) (s .2, at-next l p (s .0) k q r (s .1) h)
+    code-of (bind t b) l p k q r s h =
+        code-of t l p (s .0) q (letOp (trans b done) r) (s .5) (s .1, s .3, named-code l (s .1) b (λ e g. code-of b (s .1) (e .first) (e .len) (e .first + e .len) done g refl) (s .4), at-next l p (s .0) k q r (s .2) h)
+
+    bodies-of : (ms : Methods) (l f : ℕ) → f + many ms ≤ length (T .methods) → Entries T l f ms → BodiesAt T l f (many ms) (transAll ms)
+    bodies-of nil l f h s = (refl, omega arith)
+    bodies-of (method x b ms) l f h s =
+        (s .0, many ms, refl, s .1, named-code l (s .0) b (λ e g. code-of b (s .0) (e .first) (e .len) (e .first + e .len) done g refl) (s .2), bodies-of ms l (suc f) (omega arith) (s .3))
+
+-- each operation of a list may stand where it does
+abbrev Own : Text → ℕ → ListEntry → Type 0
+Own T l e = (q : ℕ) → q < e .len → (o : Operation) × (nth (T .operations) (e .first + q) ≡ Some o) × (proper T l q o ≡ true)
+
+module _ (T : Text) (room l : ℕ) (e : ListEntry) where
+  row-ok : (q : ℕ) (r : Row) → row-at T l e q ≡ Ok r → (o : Operation) × (nth (T .operations) (e .first + q) ≡ Some o) × (proper T l q o ≡ true)
+  row-ok q r h = go (nth (T .operations) (e .first + q)) refl h
+    where
+      at-op : (o : Operation) (b : Bool) → proper T l q o ≡ b → cond b (Ok (row-of o)) (Err (Astray l q)) ≡ Ok r → b ≡ true
+      at-op o true p k = refl
+      at-op o false p k = absurd (let z : _≡_ {A = ℕ} 0 1 = cc in omega arith)
+
+      go : (x : Option Operation) → nth (T .operations) (e .first + q) ≡ x → if-some x (λ o. cond (proper T l q o) (Ok (row-of o)) (Err (Astray l q))) (Err (Astray l q)) ≡ Ok r →
+          (o : Operation) × (nth (T .operations) (e .first + q) ≡ Some o) × (proper T l q o ≡ true)
+      go (Some o) f k = (o, f, at-op o (proper T l q o) refl k)
+      go None f k = absurd (let z : _≡_ {A = ℕ} 0 1 = cc in omega arith)
+
+  abbrev Place : ℕ → Type 0
+  Place q = (o : Operation) × (nth (T .operations) (e .first + q) ≡ Some o) × (proper T l q o ≡ true)
+
+  written-own : (k : ℕ) (rows more : List Row) → written T room l e k rows ≡ Ok more → (q : ℕ) → q < k → Place q
+  unfolding written
+  written-own zero rows more h q lt = absurd (omega arith)
+  written-own (suc k) rows more h q lt = at-row (λ rs g j. written-own k rs more g q j) (row-at T l e k) refl h
+    where
+      at-place : (r : Row) → row-at T l e k ≡ Ok r → (b : Bool) → ltb q k ≡ b → (q < k → Place q) → Place q
+      at-place r f true c ih = ih (ltb-true _ _ c)
+      at-place r f false c ih = let d = ltb-false _ _ c in let n : q ≡ k = omega arith in subst Place (sym n) (row-ok k r f)
+
+      at-put : ((rs : List Row) → written T room l e k rs ≡ Ok more → q < k → Place q) → (r : Row) → row-at T l e k ≡ Ok r → (x : Result (List Row) Refusal) → then x (written T room l e k) ≡ Ok more → Place q
+      at-put ih r f (Ok rs) g = at-place r f (ltb q k) refl (ih rs g)
+      at-put ih r f (Err y) g = absurd (let z : _≡_ {A = ℕ} 0 1 = cc in omega arith)
+
+      at-row : ((rs : List Row) → written T room l e k rs ≡ Ok more → q < k → Place q) → (x : Result Row Refusal) → row-at T l e k ≡ x → then x (λ r. then (put room rows r) (written T room l e k)) ≡ Ok more → Place q
+      at-row ih (Ok r) f g = at-put ih r f (put room rows r) g
+      at-row ih (Err y) f g = absurd (let z : _≡_ {A = ℕ} 0 1 = cc in omega arith)
+
+-- what is known of a list that was begun
+pub record Opened (T : Text) (m : Room) (n : ℕ) (rows : List Row) (ps : List Pending) (s : State) : Type 0 where
+  pub entry : ListEntry
+  pub found : nth (T .contents) n ≡ Some entry
+  pub some : 0 < entry .len
+  pub more : List Row
+  pub wrote : written T (m .of-rows) n entry (entry .len) rows ≡ Ok more
+  pub is : s ≡ at more (fresh n ∷ ps)
+
+module _ (T : Text) (m : Room) (n : ℕ) (rows : List Row) (ps : List Pending) (s : State) where
+  opened : begun T m n rows ps ≡ Ok s → Opened T m n rows ps s
+  opened h = at-stack (ltb (length ps) (m .of-lists)) h
+    where
+      at-written : (e : ListEntry) → nth (T .contents) n ≡ Some e → 0 < e .len → (w : Result (List Row) Refusal) → written T (m .of-rows) n e (e .len) rows ≡ w → pushed w (fresh n) ps ≡ Ok s → Opened T m n rows ps s
+      at-written e f z (Ok rs) w g = record { entry = e; found = f; some = z; more = rs; wrote = w; is = cc }
+      at-written e f z (Err y) w g = absurd (let z : _≡_ {A = ℕ} 0 1 = cc in omega arith)
+
+      at-entry : (e : ListEntry) → nth (T .contents) n ≡ Some e → (b : Bool) → eqb (e .len) 0 ≡ b → cond b (Err (Astray n 0)) (pushed (written T (m .of-rows) n e (e .len) rows) (fresh n) ps) ≡ Ok s → Opened T m n rows ps s
+      at-entry e f true z g = absurd (let z : _≡_ {A = ℕ} 0 1 = cc in omega arith)
+      at-entry e f false z g = at-written e f (some-of (e .len) (eqb-false _ _ z)) (written T (m .of-rows) n e (e .len) rows) refl g
+        where
+          some-of : (k : ℕ) → (k ≡ 0 → ⊥) → 0 < k
+          some-of zero f = absurd (f refl)
+          some-of (suc k) f = omega arith
+
+      at-contents : (x : Option ListEntry) → nth (T .contents) n ≡ x → if-some x (begun-from T (m .of-rows) n rows ps) (Err (Astray n 0)) ≡ Ok s → Opened T m n rows ps s
+      at-contents (Some e) f g = at-entry e f (eqb (e .len) 0) refl g
+      at-contents None f g = absurd (let z : _≡_ {A = ℕ} 0 1 = cc in omega arith)
+
+      at-stack : (b : Bool) → cond b (if-some (nth (T .contents) n) (begun-from T (m .of-rows) n rows ps) (Err (Astray n 0))) (Err (StackFull n)) ≡ Ok s → Opened T m n rows ps s
+      at-stack true g = at-contents (nth (T .contents) n) refl g
+      at-stack false g = absurd (let z : _≡_ {A = ℕ} 0 1 = cc in omega arith)
