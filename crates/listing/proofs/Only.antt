@@ -137,3 +137,136 @@ module _ (T : Text) (m : Room) (n : ℕ) (rows : List Row) (ps : List Pending) (
       at-stack : (b : Bool) → cond b (if-some (nth (T .contents) n) (begun-from T (m .of-rows) n rows ps) (Err (Astray n 0))) (Err (StackFull n)) ≡ Ok s → Opened T m n rows ps s
       at-stack true g = at-contents (nth (T .contents) n) refl g
       at-stack false g = absurd (let z : _≡_ {A = ℕ} 0 1 = cc in omega arith)
+
+module _ (T : Text) (m : Room) (out : List Row) where
+  -- within so many turns, the walk from here ends in these rows
+  abbrev Runs : ℕ → List Row → List Pending → Type 0
+  Runs k rows ps = walked k T m (at rows ps) ≡ Some (Ok out)
+
+  -- one turn of such a walk
+  record Turn (k : ℕ) (rows : List Row) (p : Pending) (ps : List Pending) : Type 0 where
+    pub left : ℕ
+    pub fewer : k ≡ suc left
+    pub state : State
+    pub carries : carried T m rows p ps (step-of T p) ≡ Ok state
+    pub goes : walked left T m state ≡ Some (Ok out)
+
+  turn : (k : ℕ) (rows : List Row) (p : Pending) (ps : List Pending) → Runs k rows (p ∷ ps) → Turn k rows p ps
+  unfolding walked
+  turn zero rows p ps r = absurd (let z : _≡_ {A = ℕ} 0 1 = cc in omega arith)
+  turn (suc k) rows p ps r = go (carried T m rows p ps (step-of T p)) refl r
+    where
+      go : (x : Result State Refusal) → carried T m rows p ps (step-of T p) ≡ x → going x (walked k T m) ≡ Some (Ok out) → Turn (suc k) rows p ps
+      go (Ok s) c g = record { left = k; fewer = refl; state = s; carries = c; goes = g }
+      go (Err y) c g = absurd (let z : _≡_ {A = ℕ} 0 1 = cc in omega arith)
+
+  -- list l is listed to its end, from an operation before which stands the term t
+  record Rested (l : ℕ) (e : ListEntry) (t : Term) (k : ℕ) (rows : List Row) (ps : List Pending) : Type 0 where
+    pub term : Term
+    pub spine : Spine T l (e .first) (e .len) term
+    pub more : List Row
+    pub body : body-rows term ≡ body-rows t ++ more
+    pub turns : ℕ
+    pub fewer : turns < k
+    pub fits : length (rows ++ more) ≤ m .of-rows
+    pub goes : Runs turns (rows ++ more) ps
+
+  -- list n stands for a term, whose rows are written
+  record Whole (n k : ℕ) (rows : List Row) (ps : List Pending) : Type 0 where
+    pub term : Term
+    pub listed : Listed T n (λ e. Spine T n (e .first) (e .len) term)
+    pub turns : ℕ
+    pub fewer : turns < k
+    pub fits : length (rows ++ rows-of term) ≤ m .of-rows
+    pub goes : Runs turns (rows ++ rows-of term) ps
+
+  -- the methods of an object in list l, from the i-th on
+  record Named-all (l a c i k : ℕ) (rows : List Row) (ps : List Pending) : Type 0 where
+    pub methods : Methods
+    pub count : i + many methods ≡ c
+    pub entries : Entries T l (a + i) methods
+    pub turns : ℕ
+    pub fewer : turns < k
+    pub fits : length (rows ++ method-rows methods) ≤ m .of-rows
+    pub goes : Runs turns (rows ++ method-rows methods) (pend l 1 c ∷ ps)
+
+  -- each of these for walks of fewer than K turns
+  abbrev RestAll : ℕ → Type 0
+  RestAll K =
+      (k : ℕ) → k < K → (l : ℕ) (e : ListEntry) → nth (T .contents) l ≡ Some e → Own T l e → (j i : ℕ) (t : Term) → Spine T l (e .first) j t → 0 < j → j ≤ e .len →
+      (rows : List Row) (ps : List Pending) → length rows ≤ m .of-rows → Runs k rows (pend l j i ∷ ps) → Rested l e t k rows ps
+
+  abbrev ListAll : ℕ → Type 0
+  ListAll K =
+      (k : ℕ) → k < K → (n : ℕ) (rows : List Row) (ps : List Pending) (s : State) → length rows ≤ m .of-rows → begun T m n rows ps ≡ Ok s → walked k T m s ≡ Some (Ok out) → Whole n k rows ps
+
+  abbrev MethodAll : ℕ → Type 0
+  MethodAll K =
+      (k : ℕ) → k < K → (l : ℕ) (e : ListEntry) → nth (T .contents) l ≡ Some e → 0 < e .len → (a c i : ℕ) → nth (T .operations) (e .first) ≡ Some (op.Object a c) → i ≤ c →
+      (rows : List Row) (ps : List Pending) → length rows ≤ m .of-rows → Runs k rows (pend l 0 i ∷ ps) → Named-all l a c i k rows ps
+
+  module _ (K : ℕ) (rests : RestAll K) (whole-lists : ListAll K) (l : ℕ) (e : ListEntry) (f : nth (T .contents) l ≡ Some e) (own : Own T l e) (j i : ℕ) (t : Term) (sp : Spine T l (e .first) j t)
+      (z : 0 < j) (h : j < e .len) (rows : List Row) (ps : List Pending) (w : length rows ≤ m .of-rows) (k left : ℕ) (lt : k < suc K) (kk : k ≡ suc left) where
+    -- a follower with no body
+    passes-on : (u : Term) → body-rows u ≡ body-rows t → Spine T l (e .first) (j + 1) u → (s : State) → _≡_ {A = Result State Refusal} (Ok (at rows (pend l (j + 1) i ∷ ps))) (Ok s) → walked left T m s ≡ Some (Ok out) → Rested l e t k rows ps
+    passes-on u b us s c g =
+        let q : at rows (pend l (j + 1) i ∷ ps) ≡ s = cc in
+        let r = rests left (omega arith) l e f own (j + 1) i u us (omega arith) (omega arith) rows ps w (ap (walked left T m) q ∙ g) in
+        record { term = r .term; spine = r .spine; more = r .more; body = r .body ∙ ap (λ (x : List Row). x ++ r .more) b; turns = r .turns; fewer = omega (arith, r .fewer); fits = r .fits; goes = r .goes }
+
+    -- a follower with a body
+    body-on : (u : Term → Term) (n : ℕ) → l < n → ((b : Term) → body-rows (u b) ≡ body-rows t ++ rows-of b) → ((b : Term) → Named T l n (λ x. Spine T n (x .first) (x .len) b) → Spine T l (e .first) (j + 1) (u b)) →
+        (s : State) → begun T m n rows (pend l (j + 1) i ∷ ps) ≡ Ok s → walked left T m s ≡ Some (Ok out) → Rested l e t k rows ps
+    body-on u n above bs us s c g =
+        let x = whole-lists left (omega arith) n rows (pend l (j + 1) i ∷ ps) s w c g in
+        let b = x .term in
+        let r = rests (x .turns) (omega (arith, x .fewer)) l e f own (j + 1) i (u b) (us b (record { above = above; listed = x .listed })) (omega arith) (omega arith) (rows ++ rows-of b) ps (x .fits) (x .goes) in
+        let a = append-assoc rows (rows-of b) (r .more) in
+        record {
+          term = r .term;
+          spine = r .spine;
+          more = rows-of b ++ r .more;
+          body = r .body ∙ ap (λ (y : List Row). y ++ r .more) (bs b) ∙ append-assoc (body-rows t) (rows-of b) (r .more);
+          turns = r .turns;
+          fewer = omega (arith, r .fewer, x .fewer);
+          fits = subst (λ (y : List Row). length y ≤ m .of-rows) a (r .fits);
+          goes = subst (λ (y : List Row). Runs (r .turns) y ps) a (r .goes);
+        }
+
+    at-follower : (o : Operation) → nth (T .operations) (e .first + j) ≡ Some o → proper T l j o ≡ true → (s : State) → carried T m rows (pend l j i) ps (step-at T (pend l j i) o) ≡ Ok s → walked left T m s ≡ Some (Ok out) → Rested l e t k rows ps
+    at-follower (op.Access x) n p s c g = absurd (omega (arith, eqb-true j 0 p))
+    at-follower (op.Figure x) n p s c g = absurd (omega (arith, eqb-true j 0 p))
+    at-follower (op.Object a b) n p s c g = absurd (omega (arith, eqb-true j 0 (and-parts (eqb j 0) _ p .0)))
+    at-follower (op.Select x) n p s c g = passes-on (select t x) refl (j, omega arith, n, sp) s c g
+    at-follower (op.Update x b) n p s c g = body-on (update t x) b (ltb-true l b (and-parts (ltb 0 j) _ p .1)) (λ y. refl) (λ y d. (j, b, omega arith, n, d, sp)) s c g
+    at-follower op.Clone n p s c g = passes-on (clone t) refl (j, omega arith, n, sp) s c g
+    at-follower (op.Let b) n p s c g = body-on (bind t) b (ltb-true l b (and-parts (ltb 0 j) _ p .1)) (λ y. refl) (λ y d. (j, b, omega arith, n, d, sp)) s c g
+
+  rest-step : (K : ℕ) → RestAll K → ListAll K → RestAll (suc K)
+  rest-step K rests whole-lists k lt l e f own j i t sp z h rows ps w r = go (ltb j (e .len)) refl
+    where
+      tn : Turn k rows (pend l j i) ps
+      tn = turn k rows (pend l j i) ps r
+
+      go : (b : Bool) → ltb j (e .len) ≡ b → Rested l e t k rows ps
+      go true b =
+          let n = ltb-true j (e .len) b in
+          let o = own j n in
+          at-follower K rests whole-lists l e f own j i t sp z n rows ps w k (tn .left) lt (tn .fewer) (o .0) (o .1) (o .2) (tn .state)
+          (sym (ap (carried T m rows (pend l j i) ps) (step-found T m l e f j i (o .0) n (o .1))) ∙ tn .carries) (tn .goes)
+      go false b =
+          let n = ltb-false j (e .len) b in
+          let d : j ≡ e .len = omega arith in
+          let c : _≡_ {A = Result State Refusal} (Ok (at rows ps)) (Ok (tn .state)) = sym (ap (carried T m rows (pend l j i) ps) (step-ended T m l e f j i n)) ∙ tn .carries in
+          let q : at rows ps ≡ tn .state = cc in
+          let a = append-nil rows in
+          record {
+            term = t;
+            spine = subst (λ (x : ℕ). Spine T l (e .first) x t) d sp;
+            more = [];
+            body = sym (append-nil (body-rows t));
+            turns = tn .left;
+            fewer = omega (arith, tn .fewer);
+            fits = subst (λ (y : List Row). length y ≤ m .of-rows) (sym a) w;
+            goes = subst (λ (y : List Row). Runs (tn .left) y ps) (sym a) (ap (walked (tn .left) T m) q ∙ tn .goes);
+          }
