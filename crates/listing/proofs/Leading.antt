@@ -210,7 +210,7 @@ module _ (T : Text) (m : Room) where
       go ih (Ok u) e = let t = turned-cheaper T m rows p ps u h l e in ih (u .rows) (u .pending) (omega (arith, t .cheaper)) (t .fits) (t .lists)
       go ih (Err x) e = (Err x, refl)
 
-  at-end : (rows : List Row) (j : ℕ) (r : Result (List Row) Refusal) → walked j T m (at rows []) ≡ Some r → r ≡ Ok rows
+  pub at-end : (rows : List Row) (j : ℕ) (r : Result (List Row) Refusal) → walked j T m (at rows []) ≡ Some r → r ≡ Ok rows
   unfolding walked
   at-end rows zero r h = absurd (let z : _≡_ {A = ℕ} 0 1 = cc in omega arith)
   at-end rows (suc j) r h = cc

@@ -36,7 +36,8 @@ use Rattle.listing.specs.Steps.{row-of, proper, row-at, method-row, method-ste
 use Rattle.listing.specs.Listing.{State, Room, Answer, then, put, written, pushed, fresh, begun-from, begun, carried, going, walked, listed-whole, listed}
 use Rattle.listing.proofs.Costs.{put-longer, written-longer, Begun, begun-cheaper}
 use Rattle.listing.proofs.Spines.{Spine, Entries, own-rows, body-rows, rows-split, own-written, at}
-use Rattle.listing.proofs.Leading.{pend, step-found, step-ended}
+use Rattle.listing.specs.Laws.{ListsOnly}
+use Rattle.listing.proofs.Leading.{pend, step-found, step-ended, at-end}
 
 -- a spine stands for the tree of its term
 module _ (T : Text) where
@@ -270,3 +271,170 @@ module _ (T : Text) (m : Room) (out : List Row) where
             fits = subst (λ (y : List Row). length y ≤ m .of-rows) (sym a) w;
             goes = subst (λ (y : List Row). Runs (tn .left) y ps) (sym a) (ap (walked (tn .left) T m) q ∙ tn .goes);
           }
+
+  module _ (K : ℕ) (whole-lists : ListAll K) (methods : MethodAll K) (l : ℕ) (e : ListEntry) (f : nth (T .contents) l ≡ Some e) (z : 0 < e .len) (a c i : ℕ) (head : nth (T .operations) (e .first) ≡ Some (op.Object a c))
+      (h : i < c) (rows : List Row) (ps : List Pending) (w : length rows ≤ m .of-rows) (k left : ℕ) (lt : k < suc K) (kk : k ≡ suc left) (s : State) (g : walked left T m s ≡ Some (Ok out)) where
+    at-begun : (x n : ℕ) → nth (T .methods) (a + i) ≡ Some (record { label = x; list = n }) → l < n → (more : List Row) → put (m .of-rows) rows (method-row x) ≡ Ok more → begun T m n more (pend l 0 (i + 1) ∷ ps) ≡ Ok s → Named-all l a c i k rows ps
+    at-begun x n me above more pt bg =
+        let pl = put-longer (m .of-rows) rows (method-row x) more pt in
+        let y = whole-lists left (omega arith) n more (pend l 0 (i + 1) ∷ ps) s (pl .1) bg g in
+        let b = y .term in
+        let r = methods (y .turns) (omega (arith, y .fewer)) l e f z a c (i + 1) head (omega arith) (more ++ rows-of b) ps (y .fits) (y .goes) in
+        let ms = r .methods in
+        let mr : rows ++ (method-row x ∷ []) ≡ more = put-is (ltb (length rows) (m .of-rows)) pt in
+        let ix : a + (i + 1) ≡ suc (a + i) = omega arith in
+        let shape : (more ++ rows-of b) ++ method-rows ms ≡ rows ++ method-rows (method x b ms) =
+        append-assoc more (rows-of b) (method-rows ms) ∙ ap (λ (q : List Row). q ++ (rows-of b ++ method-rows ms)) (sym mr) ∙ append-assoc rows (method-row x ∷ []) (rows-of b ++ method-rows ms) in
+        record {
+          methods = method x b ms;
+          count = omega (arith, r .count);
+          entries = (n, me, record { above = above; listed = y .listed }, subst (λ (q : ℕ). Entries T l q ms) ix (r .entries));
+          turns = r .turns;
+          fewer = omega (arith, r .fewer, y .fewer);
+          fits = subst (λ (q : List Row). length q ≤ m .of-rows) shape (r .fits);
+          goes = subst (λ (q : List Row). Runs (r .turns) q (pend l 1 c ∷ ps)) shape (r .goes);
+        }
+      where
+        put-is : (d : Bool) → cond d (Ok (rows ++ method-row x ∷ [])) (Err RowsShort) ≡ Ok more → rows ++ (method-row x ∷ []) ≡ more
+        put-is true q = cc
+        put-is false q = absurd (let z : _≡_ {A = ℕ} 0 1 = cc in omega arith)
+
+    at-put : (x n : ℕ) → nth (T .methods) (a + i) ≡ Some (record { label = x; list = n }) → l < n → (v : Result (List Row) Refusal) → put (m .of-rows) rows (method-row x) ≡ v →
+        then v (λ rs. begun T m n rs (pend l 0 (i + 1) ∷ ps)) ≡ Ok s → Named-all l a c i k rows ps
+    at-put x n me above (Ok more) pt q = at-begun x n me above more pt q
+    at-put x n me above (Err y) pt q = absurd (let z : _≡_ {A = ℕ} 0 1 = cc in omega arith)
+
+    at-above : (me : MethodEntry) → nth (T .methods) (a + i) ≡ Some me → (d : Bool) → ltb l (me .list) ≡ d → carried T m rows (pend l 0 i) ps (cond d (step.Method (me .label) (me .list)) step.Astray) ≡ Ok s → Named-all l a c i k rows ps
+    at-above me n true d q = at-put (me .label) (me .list) n (ltb-true l (me .list) d) (put (m .of-rows) rows (method-row (me .label))) refl q
+    at-above me n false d q = absurd (let z : _≡_ {A = ℕ} 0 1 = cc in omega arith)
+
+    at-entry : (v : Option MethodEntry) → nth (T .methods) (a + i) ≡ v → carried T m rows (pend l 0 i) ps (method-step l v) ≡ Ok s → Named-all l a c i k rows ps
+    at-entry (Some me) n q = at-above me n (ltb l (me .list)) refl q
+    at-entry None n q = absurd (let z : _≡_ {A = ℕ} 0 1 = cc in omega arith)
+
+  method-all-step : (K : ℕ) → ListAll K → MethodAll K → MethodAll (suc K)
+  method-all-step K whole-lists methods k lt l e f z a c i head h rows ps w r = go (ltb i c) refl
+    where
+      tn : Turn k rows (pend l 0 i) ps
+      tn = turn k rows (pend l 0 i) ps r
+
+      now-is : (d : Bool) → ltb i c ≡ d → carried T m rows (pend l 0 i) ps (cond d (method-step l (nth (T .methods) (a + i))) step.Passed) ≡ Ok (tn .state)
+      now-is d q =
+          ap (λ (b : Bool). carried T m rows (pend l 0 i) ps (cond b (method-step l (nth (T .methods) (a + i))) step.Passed)) (sym q)
+          ∙ sym (ap (carried T m rows (pend l 0 i) ps) (step-found T m l e f 0 i (op.Object a c) z (ap (nth (T .operations)) (add-zero (e .first)) ∙ head))) ∙ tn .carries
+
+      go : (d : Bool) → ltb i c ≡ d → Named-all l a c i k rows ps
+      go true d = at-entry K whole-lists methods l e f z a c i head (ltb-true i c d) rows ps w k (tn .left) lt (tn .fewer) (tn .state) (tn .goes) (nth (T .methods) (a + i)) refl (now-is true d)
+      go false d =
+          let n = ltb-false i c d in
+          let q : i ≡ c = omega arith in
+          let s : _≡_ {A = Result State Refusal} (Ok (at rows (pend l 1 i ∷ ps))) (Ok (tn .state)) = now-is false d in
+          let st : at rows (pend l 1 i ∷ ps) ≡ tn .state = cc in
+          let o = append-nil rows in
+          record {
+            methods = nil;
+            count = omega arith;
+            entries = tt;
+            turns = tn .left;
+            fewer = omega (arith, tn .fewer);
+            fits = subst (λ (y : List Row). length y ≤ m .of-rows) (sym o) w;
+            goes = subst (λ (y : List Row). Runs (tn .left) y (pend l 1 c ∷ ps)) (sym o) (ap (λ (y : ℕ). walked (tn .left) T m (at rows (pend l 1 y ∷ ps))) (sym q) ∙ ap (walked (tn .left) T m) st ∙ tn .goes);
+          }
+
+  module _ (K : ℕ) (rests : RestAll K) (methods : MethodAll (suc K)) (n : ℕ) (rows : List Row) (ps : List Pending) (w : length rows ≤ m .of-rows) (k : ℕ) (lt : k < suc K)
+      (e : ListEntry) (f : nth (T .contents) n ≡ Some e) (z : 0 < e .len) (own : Own T n e) (more : List Row) (wr : written T (m .of-rows) n e (e .len) rows ≡ Ok more) where
+    wrote : length more ≤ m .of-rows
+    wrote = written-longer T (m .of-rows) n e (e .len) rows more wr .within w
+
+    -- once the head is passed
+    ends : (t : Term) (i turns : ℕ) → turns < k → Spine T n (e .first) 1 t → length (more ++ body-rows t) ≤ m .of-rows → Runs turns (more ++ body-rows t) (pend n 1 i ∷ ps) → Whole n k rows ps
+    ends t i turns fewer sp fits goes =
+        let r = rests turns (omega arith) n e f own 1 i t sp (omega arith) (omega arith) (more ++ body-rows t) ps fits goes in
+        let b = r .term in
+        let long = written-longer T (m .of-rows) n e (e .len) rows more wr in
+        let ow : written T (m .of-rows) n e (e .len) rows ≡ Ok (rows ++ own-rows b) = own-written T (m .of-rows) n e (e .len) b rows (r .spine) (omega (arith, long .long, wrote)) in
+        let both : _≡_ {A = Result (List Row) Refusal} (Ok more) (Ok (rows ++ own-rows b)) = sym wr ∙ ow in
+        let mo : more ≡ rows ++ own-rows b = cc in
+        let shape : (more ++ body-rows t) ++ r .more ≡ rows ++ rows-of b =
+        append-assoc more (body-rows t) (r .more) ∙ ap (λ (q : List Row). more ++ q) (sym (r .body)) ∙ ap (λ (q : List Row). q ++ body-rows b) mo
+        ∙ append-assoc rows (own-rows b) (body-rows b) ∙ ap (λ (q : List Row). rows ++ q) (rows-split b) in
+        record {
+          term = b;
+          listed = record { entry = e; found = f; holds = r .spine };
+          turns = r .turns;
+          fewer = omega (arith, r .fewer);
+          fits = subst (λ (q : List Row). length q ≤ m .of-rows) shape (r .fits);
+          goes = subst (λ (q : List Row). Runs (r .turns) q ps) shape (r .goes);
+        }
+
+    -- a head with no bodies
+    passes-head : (t : Term) → body-rows t ≡ [] → (o : Operation) → nth (T .operations) (e .first + 0) ≡ Some o → step-at T (pend n 0 0) o ≡ step.Passed → Spine T n (e .first) 1 t → Runs k more (fresh n ∷ ps) → Whole n k rows ps
+    passes-head t none o is-o st sp r =
+        let tn = turn k more (fresh n) ps r in
+        let c : _≡_ {A = Result State Refusal} (Ok (at more (pend n 1 0 ∷ ps))) (Ok (tn .state)) =
+        sym (ap (carried T m more (pend n 0 0) ps) (step-found T m n e f 0 0 o z is-o ∙ st)) ∙ tn .carries in
+        let q : at more (pend n 1 0 ∷ ps) ≡ tn .state = cc in
+        let a : more ≡ more ++ body-rows t = sym (ap (λ (y : List Row). more ++ y) none ∙ append-nil more) in
+        ends t 0 (tn .left) (omega (arith, tn .fewer)) sp (subst (λ (y : List Row). length y ≤ m .of-rows) a wrote) (subst (λ (y : List Row). Runs (tn .left) y (pend n 1 0 ∷ ps)) a (ap (walked (tn .left) T m) q ∙ tn .goes))
+
+    at-head-of : (o : Operation) → nth (T .operations) (e .first + 0) ≡ Some o → proper T n 0 o ≡ true → Runs k more (fresh n ∷ ps) → Whole n k rows ps
+    at-head-of (op.Access i) is-o p r = passes-head (var i) refl (op.Access i) is-o refl (refl, sym (ap (nth (T .operations)) (add-zero (e .first))) ∙ is-o) r
+    at-head-of (op.Figure v) is-o p r = passes-head (val (Figure v)) refl (op.Figure v) is-o refl (refl, sym (ap (nth (T .operations)) (add-zero (e .first))) ∙ is-o) r
+    at-head-of (op.Object a c) is-o p r =
+        let head = sym (ap (nth (T .operations)) (add-zero (e .first))) ∙ is-o in
+        let x = methods k lt n e f z a c 0 head (omega arith) more ps wrote r in
+        let ms = x .methods in
+        let mc : c ≡ many ms = omega (arith, x .count) in
+        let le = leb-true (a + c) (length (T .methods)) (and-parts (eqb 0 0) _ p .1) in
+        ends (object ms) c (x .turns) (x .fewer)
+        (a, refl, head ∙ ap (λ (y : ℕ). Some (op.Object a y)) mc, omega arith, subst (λ (y : ℕ). Entries T n y ms) (add-zero a) (x .entries)) (x .fits) (x .goes)
+    at-head-of (op.Select x) is-o p r = absurd (let z : _≡_ {A = ℕ} 0 1 = cc in omega arith)
+    at-head-of (op.Update x b) is-o p r = absurd (let z : _≡_ {A = ℕ} 0 1 = cc in omega arith)
+    at-head-of op.Clone is-o p r = absurd (let z : _≡_ {A = ℕ} 0 1 = cc in omega arith)
+    at-head-of (op.Let b) is-o p r = absurd (let z : _≡_ {A = ℕ} 0 1 = cc in omega arith)
+
+  list-step : (K : ℕ) → RestAll K → MethodAll (suc K) → ListAll (suc K)
+  list-step K rests methods k lt n rows ps s w bg g =
+      let o = opened T m n rows ps s bg in
+      let e = o .entry in
+      let own : Own T n e = written-own T (m .of-rows) n e (e .len) rows (o .more) (o .wrote) in
+      let h = own 0 (o .some) in
+      at-head-of K rests methods n rows ps w k lt e (o .found) (o .some) own (o .more) (o .wrote) (h .0) (h .1) (h .2) (ap (walked k T m) (sym (o .is)) ∙ g)
+
+  every : (K : ℕ) → RestAll K × ListAll K × MethodAll K
+  every zero = (λ k lt. absurd (omega arith), λ k lt. absurd (omega arith), λ k lt. absurd (omega arith))
+  every (suc K) =
+      let ih = every K in
+      let ms = method-all-step K (ih .1) (ih .2) in
+      (rest-step K (ih .0) (ih .1), list-step K (ih .0) ms, ms)
+
+pub lists-only : ListsOnly
+lists-only T m n rows h = at-contents (nth (T .contents) n) refl h
+  where
+    at-begun : (e : ListEntry) → nth (T .contents) n ≡ Some e → 0 < e .mark → (b : Result State Refusal) → begun T m n [] [] ≡ b → going b (walked (2 * m .of-rows + 1) T m) ≡ Some (Ok rows) →
+        (t : Term) × (g : ℕ) × Program T n g (trans t done) × (rows ≡ rows-of t)
+    at-begun e f mk (Ok s) bg k =
+        let w = every T m rows (suc (2 * m .of-rows + 1)) .1 (2 * m .of-rows + 1) (omega arith) n [] [] s (omega arith) bg k in
+        let t = w .term in
+        let l = w .listed in
+        let same : _≡_ {A = Result (List Row) Refusal} (Ok rows) (Ok (rows-of t)) = at-end T m (rows-of t) (w .turns) (Ok rows) (w .goes) in
+        let found : Some e ≡ Some (l .entry) = sym f ∙ l .found in
+        let mark : e .mark ≡ l .entry .mark = ap (λ (x : ListEntry). x .mark) (some-is e (l .entry) found) in
+        (t, e .mark - 1, record { entry = l .entry; found = l .found; holds = (omega arith, code-of T t n (l .entry .first) (l .entry .len) (l .entry .first + l .entry .len) done (l .holds) refl) }, cc)
+      where
+        some-is : (x y : ListEntry) → Some x ≡ Some y → x ≡ y
+        some-is x y q = cc
+    at-begun e f mk (Err y) bg k = absurd (let z : _≡_ {A = ℕ} 0 1 = cc in omega arith)
+
+    at-mark : (e : ListEntry) → nth (T .contents) n ≡ Some e → (b : Bool) → eqb (e .mark) 0 ≡ b → cond b (Some (Err NoProgram)) (listed-whole T m n) ≡ Some (Ok rows) → (t : Term) × (g : ℕ) × Program T n g (trans t done) × (rows ≡ rows-of t)
+    at-mark e f true b k = absurd (let z : _≡_ {A = ℕ} 0 1 = cc in omega arith)
+    at-mark e f false b k = at-begun e f (some-of (e .mark) (eqb-false _ _ b)) (begun T m n [] []) refl k
+      where
+        some-of : (x : ℕ) → (x ≡ 0 → ⊥) → 0 < x
+        some-of zero q = absurd (q refl)
+        some-of (suc x) q = omega arith
+
+    at-contents : (x : Option ListEntry) → nth (T .contents) n ≡ x → if-some x (λ e. cond (eqb (e .mark) 0) (Some (Err NoProgram)) (listed-whole T m n)) (Some (Err NoProgram)) ≡ Some (Ok rows) →
+        (t : Term) × (g : ℕ) × Program T n g (trans t done) × (rows ≡ rows-of t)
+    at-contents (Some e) f k = at-mark e f (eqb (e .mark) 0) refl k
+    at-contents None f k = absurd (let z : _≡_ {A = ℕ} 0 1 = cc in omega arith)
