@@ -9,7 +9,7 @@ use lib.ListN.{length, take}
 use lib.Seq.{length-take-le}
 use denote.Ref.{now}
 use borrow.Author.Tests.{leb-true, le-leb, le-ltb}
-use Rattle.std.proofs.shelf.Tests.{cond-true, cond-false}
+use Rattle.std.proofs.shelf.Tests.{and-parts, cond-true, cond-false}
 use Rattle.std.specs.declared.result.Result.{Result}
 use Rattle.std.specs.declared.result.Result.the-variants.{Ok, Err}
 use Rattle.calculus.specs.declared.rows.Row.{Row}
@@ -61,10 +61,6 @@ tally-le p (r ∷ rs) = let h = tally-le p rs in one (p r) (tally p rs) (length 
     one true x n h = omega arith
     one false x n h = omega arith
 
-both : (x y : Bool) → (x && y) ≡ true → (x ≡ true) × (y ≡ true)
-both true y h = (refl, h)
-both false y h = absurd (let z : _≡_ {A = ℕ} 0 1 = cc in omega arith)
-
 pub record Within (c r : Counts) : Type 0 where
   pub contents : c .contents ≤ r .contents
   pub operations : c .operations ≤ r .operations
@@ -72,8 +68,8 @@ pub record Within (c r : Counts) : Type 0 where
 
 pub within-is : (c r : Counts) → within c r ≡ true → Within c r
 within-is c r h =
-    let a = both (leb (c .contents) (r .contents)) _ h in
-    let b = both (leb (c .operations) (r .operations)) _ (a .1) in
+    let a = and-parts (leb (c .contents) (r .contents)) _ h in
+    let b = and-parts (leb (c .operations) (r .operations)) _ (a .1) in
     record { contents = leb-true _ _ (a .0); operations = leb-true _ _ (b .0); methods = leb-true _ _ (b .1) }
 
 is-within : (c r : Counts) → Within c r → within c r ≡ true

@@ -7,19 +7,14 @@ use native.Mathlib.Omega.{arith}
 use lib.Dec.{leb, eqb}
 use lib.IntN.{ℤ, pos}
 use lib.ListN.{length, set, drop, getD, length-append, length-drop, length-set}
-use Rattle.std.proofs.shelf.Lists.{drop-more, drop-all, at-drop-more, at-drop-all}
+use Rattle.std.proofs.shelf.Lists.{drop-map, drop-more, drop-all, at-drop-more, at-drop-all}
 use Rattle.std.proofs.shelf.Ways.{tells}
 use Rattle.calculus.specs.declared.rows.Row.{Row}
 use Rattle.calculus.specs.declared.values.Value.the-variants.{Figure, Location}
 use Rattle.calculus.specs.Terms.{Term, Methods, var, val, object, select, update, clone, bind, nil, method}
 use Rattle.calculus.specs.Rows.{many, rows-of, method-rows, plain}
+use Rattle.calculus.proofs.Sizes.{blank, row-at}
 use Rattle.compiler.specs.Fronts.{followers, front}
-
-abbrev pub blank : Row
-blank = record { kind = 0; label = 0; number = pos 0 }
-
-abbrev pub row-at : List Row → ℕ → Row
-row-at rows p = getD rows p blank
 
 pub front-step : (rows : List Row) (i : ℕ) → i < length rows → front (drop i rows) ≡ cond (leb 4 (row-at rows i .kind)) (suc (front (drop (i + 1) rows))) 0
 front-step rows i h = at-drop-more front rows i blank h
@@ -27,28 +22,12 @@ front-step rows i h = at-drop-more front rows i blank h
 pub front-end : (rows : List Row) (i : ℕ) → length rows ≤ i → front (drop i rows) ≡ 0
 front-end rows i h = at-drop-all front rows i h
 
-pub plain-long : (rows : List Row) → length (map plain rows) ≡ length rows
-plain-long [] = refl
-plain-long (r ∷ rs) = ap suc (plain-long rs)
-
-pub drop-plain : (rows : List Row) (at : ℕ) → drop at (map plain rows) ≡ map plain (drop at rows)
-drop-plain [] zero = refl
-drop-plain [] (suc n) = refl
-drop-plain (r ∷ rs) zero = refl
-drop-plain (r ∷ rs) (suc n) = drop-plain rs n
-
-pub at-plain : (rows : List Row) (at : ℕ) → row-at (map plain rows) at ≡ plain (row-at rows at)
-at-plain [] zero = refl
-at-plain [] (suc n) = refl
-at-plain (r ∷ rs) zero = refl
-at-plain (r ∷ rs) (suc n) = at-plain rs n
-
 front-plain : (rows : List Row) → front (map plain rows) ≡ front rows
 front-plain [] = refl
 front-plain (r ∷ rs) = ap (λ (x : ℕ). cond (leb 4 (r .kind)) (suc x) 0) (front-plain rs)
 
 pub front-same : (rows : List Row) (at : ℕ) → front (drop at rows) ≡ front (drop at (map plain rows))
-front-same rows at = sym (front-plain (drop at rows)) ∙ ap front (sym (drop-plain rows at))
+front-same rows at = sym (front-plain (drop at rows)) ∙ ap front (sym (drop-map plain at rows))
 
 pub some-rows : (t : Term) → 1 ≤ length (rows-of t)
 some-rows (var i) = omega arith

@@ -7,6 +7,7 @@ use native.Mathlib.Omega.{arith}
 use lib.Dec.{leb, eqb}
 use lib.IntN.{ℤ, pos}
 use lib.ListN.{length, set, drop, length-set}
+use Rattle.std.proofs.shelf.Tests.{and-parts}
 use Rattle.std.proofs.shelf.Ways.{tells}
 use Rattle.calculus.specs.declared.rows.Row.{Row}
 use Rattle.calculus.specs.Terms.{Term, Methods, var, val, object, select, update, clone, bind, nil, method}
@@ -19,7 +20,8 @@ use Rattle.calculus.specs.Sizes.{bodies, bodies-all, entries, entries-all}
 use Rattle.compiler.specs.Fronts.{followers, inner, inner-all}
 use Rattle.compiler.specs.Area.{Area, opened, wrote, reserved, named}
 use Rattle.compiler.specs.Emit.{small, leaf-of, follower-of, put, put-methods, put-list, Fit, FitAll}
-use Rattle.compiler.proofs.Steps.{row-at, uncons}
+use Rattle.calculus.proofs.Sizes.{row-at}
+use Rattle.compiler.proofs.Steps.{uncons}
 
 abbrev pub first : Term → Row
 first (var i) = record { kind = 1; label = 0; number = pos i }
@@ -53,11 +55,6 @@ rows-begin (bind a b) = refl
 
 pub begins : (rows : List Row) (at : ℕ) (t : Term) (rest : List Row) → drop at rows ≡ rows-of t ++ rest → (row-at rows at ≡ first t) × (drop (at + 1) rows ≡ after t ++ rest)
 begins rows at t rest e = uncons rows at (first t) (after t ++ rest) (e ∙ ap (λ (x : List Row). x ++ rest) (rows-begin t))
-
-both : (a b : Bool) → (a && b) ≡ true → (a ≡ true) × (b ≡ true)
-both true true h = (refl, refl)
-both true false h = (refl, h)
-both false b h = (h, grind arith)
 
 small-is : (i : ℕ) → i ≤ 1000 → small (pos i) ≡ i
 small-is i h = grind (arith, tells)
@@ -98,8 +95,8 @@ is-object (var i) f k = absurd (omega arith)
 is-object (val (Figure z)) f k = absurd (omega arith)
 is-object (val (Location n)) f k = absurd (omega arith)
 is-object (object ms) f k =
-    let hs = both _ _ (f .3) in
-    let hm = both (leb (many ms) 64) _ (hs .1) in
+    let hs = and-parts _ _ (f .3) in
+    let hm = and-parts (leb (many ms) 64) _ (hs .1) in
     let q = hm .0 in
     let le : many ms ≤ 64 = grind (arith, tells) in
     record { ms = ms; rows-after = refl; number-is = small-is (many ms) (omega arith); few = le; fit = (f .0 + 1, f .1, [], omega (arith, f .2), hm .1); bodies-is = refl; inner-is = refl; entries-is = refl; put-is = λ slot T. refl }
@@ -124,9 +121,9 @@ is-one (var i) f k u v = absurd (omega arith)
 is-one (val (Figure z)) f k u v = absurd (omega arith)
 is-one (val (Location n)) f k u v = absurd (omega arith)
 is-one (object ms) f k u v = absurd (omega arith)
-is-one (select a l) f k u v = record { a = a; rows-after = refl; fit = (f .0 + 1, f .1, omega (arith, f .2), both _ _ (f .3) .1); followers-is = refl; bodies-is = refl; inner-is = refl; entries-is = refl; put-is = λ slot T. refl }
+is-one (select a l) f k u v = record { a = a; rows-after = refl; fit = (f .0 + 1, f .1, omega (arith, f .2), and-parts _ _ (f .3) .1); followers-is = refl; bodies-is = refl; inner-is = refl; entries-is = refl; put-is = λ slot T. refl }
 is-one (update a l b) f k u v = absurd (u refl)
-is-one (clone a) f k u v = record { a = a; rows-after = refl; fit = (f .0 + 1, f .1, omega (arith, f .2), both _ _ (f .3) .1); followers-is = refl; bodies-is = refl; inner-is = refl; entries-is = refl; put-is = λ slot T. refl }
+is-one (clone a) f k u v = record { a = a; rows-after = refl; fit = (f .0 + 1, f .1, omega (arith, f .2), and-parts _ _ (f .3) .1); followers-is = refl; bodies-is = refl; inner-is = refl; entries-is = refl; put-is = λ slot T. refl }
 is-one (bind a b) f k u v = absurd (v refl)
 
 pub record Two (t : Term) : Type 0 where
@@ -149,16 +146,16 @@ is-two (val (Location n)) f k u v = absurd (omega arith)
 is-two (object ms) f k u v = absurd (omega arith)
 is-two (select a l) f k u v = absurd (u refl)
 is-two (update a l b) f k u v =
-    let hs = both _ _ (both _ _ (f .3) .1) in
+    let hs = and-parts _ _ (and-parts _ _ (f .3) .1) in
     record { a = a; b = b; rows-after = refl; fit = (f .0 + 1, f .1, omega (arith, f .2), hs .0); fit-body = (f .0 + 1, f .1 + 1, omega (arith, f .2), hs .1); followers-is = refl; bodies-is = refl; inner-is = refl; entries-is = refl; put-is = λ slot T. refl }
 is-two (clone a) f k u v = absurd (v refl)
 is-two (bind a b) f k u v =
-    let hs = both _ _ (both _ _ (f .3) .1) in
+    let hs = and-parts _ _ (and-parts _ _ (f .3) .1) in
     record { a = a; b = b; rows-after = refl; fit = (f .0 + 1, f .1, omega (arith, f .2), hs .0); fit-body = (f .0 + 1, f .1 + 1, omega (arith, f .2), hs .1); followers-is = refl; bodies-is = refl; inner-is = refl; entries-is = refl; put-is = λ slot T. refl }
 
 pub fit-method : (l : ℕ) (b : Term) (ms : Methods) → FitAll (method l b ms) → Fit b × FitAll ms
 fit-method l b ms f =
-    let hs = both (fits b (f .0 + 1) (f .1 + 1)) (fit-methods ms (f .0) (f .1) (f .2 ++ (l ∷ []))) (both (not (has l (f .2))) _ (both (leb (f .0) 200) _ (f .4) .1) .1) in
+    let hs = and-parts (fits b (f .0 + 1) (f .1 + 1)) (fit-methods ms (f .0) (f .1) (f .2 ++ (l ∷ []))) (and-parts (not (has l (f .2))) _ (and-parts (leb (f .0) 200) _ (f .4) .1) .1) in
     ((f .0 + 1, f .1 + 1, omega (arith, f .3), hs .0), (f .0, f .1, f .2 ++ (l ∷ []), f .3, hs .1))
 
 -- what writing does to the sizes

@@ -6,7 +6,7 @@ use Prim.Native.Nat.{ℕ, zero, suc, _+_, _-_, _≤_, _<_, _^_}
 use native.Mathlib.Omega.{arith}
 use lib.Dec.{leb, eqb}
 use lib.IntN.{ℤ, pos}
-use lib.ListN.{length, set, drop, length-set}
+use lib.ListN.{length, set, drop, length-set, length-map, List·getD-map}
 use Rattle.std.proofs.shelf.Ways.{tells}
 use Rattle.calculus.specs.declared.rows.Row.{Row}
 use Rattle.calculus.specs.Terms.{Term, Methods, var, val, object, select, update, clone, bind, nil, method}
@@ -18,7 +18,8 @@ use Rattle.calculus.specs.Sizes.{bodies, bodies-all, entries, entries-all}
 use Rattle.compiler.specs.Fronts.{followers, inner, inner-all, front}
 use Rattle.compiler.specs.Area.{Area, opened, wrote, reserved, named}
 use Rattle.compiler.specs.Emit.{small, leaf-of, follower-of, put, put-methods, put-list, Fit, FitAll, Wide, Ready, ReadyList, ReadyAll, Wrote, WroteList, WroteAll, LeftAll}
-use Rattle.compiler.proofs.Steps.{row-at, plain-long, at-plain, front-same, front-is, at-lt, cons-lt, uncons}
+use Rattle.calculus.proofs.Sizes.{blank, row-at}
+use Rattle.compiler.proofs.Steps.{front-same, front-is, at-lt, cons-lt, uncons}
 use Rattle.compiler.proofs.Views.{first, after, begins, Leaf, is-leaf, Obj, is-object, One, is-one, Two, is-two, fit-method, Sized, sized, sized-list}
 
 -- the code reads only what a row's kind uses
@@ -38,7 +39,7 @@ moved : (ls os es : ℕ) (T U V : Area) → U ≡ V → Sized ls os es T V → S
 moved ls os es T U V e s = subst (λ (X : Area). Sized ls os es T X) (sym e) s
 
 pub lt-plain : (rs : List Row) (at : ℕ) (t : Term) (rest : List Row) → drop at (map plain rs) ≡ rows-of t ++ rest → at < length rs
-lt-plain rs at t rest e = omega (arith, at-lt (map plain rs) at t rest e, plain-long rs)
+lt-plain rs at t rest e = omega (arith, at-lt (map plain rs) at t rest e, length-map rs plain)
 
 pub ready-lt : (rs : List Row) (at slot : ℕ) (T : Area) → Ready (map plain rs) at slot T → at < length rs
 ready-lt rs at slot T R = lt-plain rs at (R .term) (R .rest) (R .here)
@@ -64,7 +65,7 @@ module _ (rs : List Row) (at slot : ℕ) (T : Area) where
   r = row-at rs at
 
   first-is : (t : Term) (rest : List Row) → drop at P ≡ rows-of t ++ rest → plain r ≡ first t
-  first-is t rest e = sym (at-plain rs at) ∙ begins P at t rest e .0
+  first-is t rest e = sym (List·getD-map plain rs at blank) ∙ begins P at t rest e .0
 
   kind-is : (t : Term) (rest : List Row) → drop at P ≡ rows-of t ++ rest → r .kind ≡ first t .kind
   kind-is t rest e = ap (λ (x : Row). x .kind) (first-is t rest e)
@@ -258,8 +259,8 @@ module _ (rs : List Row) (at f n : ℕ) (T : Area) (some : 0 < n) where
   method-first : (l : ℕ) (xs : List Row) → drop at Q ≡ record { kind = 8; label = l; number = pos 0 } ∷ xs → (at < length rs) × (row-at rs at .label ≡ l) × (drop (at + 1) Q ≡ xs)
   method-first l xs e =
       let u = uncons Q at _ xs e in
-      let q : plain (row-at rs at) ≡ record { kind = 8; label = l; number = pos 0 } = sym (at-plain rs at) ∙ u .0 in (
-        omega (arith, cons-lt Q at _ xs e, plain-long rs),
+      let q : plain (row-at rs at) ≡ record { kind = 8; label = l; number = pos 0 } = sym (List·getD-map plain rs at blank) ∙ u .0 in (
+        omega (arith, cons-lt Q at _ xs e, length-map rs plain),
         label-plain (row-at rs at) (ap (λ (x : Row). x .kind) q) ∙ ap (λ (x : Row). x .label) q,
         u .1,
       )

@@ -7,6 +7,7 @@ use native.Mathlib.Omega.{arith}
 use lib.Dec.{leb}
 use lib.IntN.{pos, natAbs}
 use lib.ListN.{drop}
+use Rattle.std.proofs.shelf.Tests.{and-parts}
 use Rattle.calculus.specs.declared.rows.Row.{Row}
 use Rattle.calculus.specs.declared.values.Value.the-variants.{Figure, Location}
 use Rattle.calculus.specs.Terms.{Term, var, val, object, select, update, clone, bind, Methods, nil, method, Static, StaticAll}
@@ -84,26 +85,22 @@ mutual
       ap (λ (x : List Row). by-kind 8 (row 8 l (pos 0)) (read x)) (append-assoc (rows-of b) (method-rows ms) rest)
       ∙ ap (by-kind 8 (row 8 l (pos 0))) (reads b (method-rows ms ++ rest) (h .0) ∙ ap (λ (x : List Item). whole b ∷ x) (reads-all ms rest (h .1)))
 
-both : (x y : Bool) → (x && y) ≡ true → (x ≡ true) × (y ≡ true)
-both true y h = (refl, h)
-both false y h = absurd (let z : _≡_ {A = ℕ} 0 1 = cc in omega arith)
-
 -- a term within the limits names no location
 mutual
   static : (t : Term) (d s : ℕ) → fits t d s ≡ true → Static t
   static (var i) d s h = tt
   static (val (Figure k)) d s h = tt
   static (val (Location n)) d s h = absurd (let z : _≡_ {A = ℕ} 0 1 = cc in omega arith)
-  static (object ms) d s h = static-all ms (d + 1) s [] (both (leb (many ms) 64) _ (both (leb d 200) _ h .1) .1)
-  static (select a l) d s h = static a (d + 1) s (both (leb d 200) _ h .1)
-  static (update a l b) d s h = let q = both (fits a (d + 1) s) _ (both (leb d 200) _ h .1) in (static a (d + 1) s (q .0), static b (d + 1) (s + 1) (q .1))
-  static (clone a) d s h = static a (d + 1) s (both (leb d 200) _ h .1)
-  static (bind a b) d s h = let q = both (fits a (d + 1) s) _ (both (leb d 200) _ h .1) in (static a (d + 1) s (q .0), static b (d + 1) (s + 1) (q .1))
+  static (object ms) d s h = static-all ms (d + 1) s [] (and-parts (leb (many ms) 64) _ (and-parts (leb d 200) _ h .1) .1)
+  static (select a l) d s h = static a (d + 1) s (and-parts (leb d 200) _ h .1)
+  static (update a l b) d s h = let q = and-parts (fits a (d + 1) s) _ (and-parts (leb d 200) _ h .1) in (static a (d + 1) s (q .0), static b (d + 1) (s + 1) (q .1))
+  static (clone a) d s h = static a (d + 1) s (and-parts (leb d 200) _ h .1)
+  static (bind a b) d s h = let q = and-parts (fits a (d + 1) s) _ (and-parts (leb d 200) _ h .1) in (static a (d + 1) s (q .0), static b (d + 1) (s + 1) (q .1))
 
   static-all : (ms : Methods) (d s : ℕ) (seen : List ℕ) → fit-methods ms d s seen ≡ true → StaticAll ms
   static-all nil d s seen h = tt
   static-all (method l b ms) d s seen h =
-      let q = both (fits b (d + 1) (s + 1)) _ (both (not (has l seen)) _ (both (leb d 200) _ h .1) .1) in
+      let q = and-parts (fits b (d + 1) (s + 1)) _ (and-parts (not (has l seen)) _ (and-parts (leb d 200) _ h .1) .1) in
       (static b (d + 1) (s + 1) (q .0), static-all ms d s (seen ++ l ∷ []) (q .1))
 
 pub one-term : OneTerm

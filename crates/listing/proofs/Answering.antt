@@ -1,5 +1,5 @@
 -- What the answer says of a term.
-use mathlib.Core.Bool.{true, cond}
+use mathlib.Core.Bool.{Bool, true, false, cond}
 use mathlib.Core.List.{List, [], _∷_, _++_, map}
 use mathlib.Core.Path.{_≡_, refl, sym, ap, subst, _∙_}
 use Prim.Native.Nat.{ℕ, _+_, _<_, _≤_}
@@ -15,6 +15,7 @@ use Rattle.calculus.specs.declared.code.Tables.{Tables}
 use Rattle.calculus.specs.declared.code.Counts.{Counts}
 use Rattle.calculus.specs.declared.rows.Row.{Row}
 use Rattle.calculus.specs.declared.refusals.Refusal.{Refusal}
+use Rattle.calculus.specs.declared.refusals.Refusal.the-variants.{CountOutside}
 use Rattle.calculus.specs.Held.{counted}
 use Rattle.calculus.specs.Terms.{Term}
 use Rattle.calculus.specs.Rows.{rows-of, plain, Is, fits}
@@ -29,6 +30,7 @@ use Rattle.listing.specs.Nesting.{nesting}
 use Rattle.listing.specs.Back.{answer, Gave}
 use Rattle.listing.proofs.Rowed.{length-used}
 use Rattle.listing.proofs.Leading.{lists-back, round-trip}
+use Rattle.listing.proofs.Only.{lists-only}
 
 pub kept-of : (r : Result ℕ Refusal) (before after : List Row) → made r (λ n. Wrote 0 n before after) → made r (λ n. (n ≤ length after) × (drop n after ≡ drop n before))
 kept-of (Ok n) before after w = (omega (arith, w .within), w .rest)
@@ -54,3 +56,15 @@ module _ (tables : Tables) (counts : Counts) (program : ℕ) (r : Result ℕ Ref
       Is rows t → fits t 1 g ≡ true → length rows ≤ counted (length before) → 200 ≤ counted (length stack) → Gave (map plain rows) r before after
   gives-compiled T U rows g t h u n i f l q =
       gives (map plain rows) h (ap (λ (x : Text). listed x (lent-rooms before stack) program) u ∙ ap (listed (joined (compiled T g t) U) (lent-rooms before stack)) n ∙ round-trip T U rows g t (lent-rooms before stack) i f l q)
+
+-- what came back is the rows of a term that the program stands for
+module _ (tables : Tables) (counts : Counts) (program : ℕ) (before after : List Row) (stack : List Pending) where
+  only-term : (n : ℕ) (b : Bool) → Some (Ok (take n after)) ≡ cond b (listed (used tables counts) (lent-rooms before stack) program) (Some (Err CountOutside)) →
+      (t : Term) × (g : ℕ) × Program (used tables counts) program g (trans t done) × (take n after ≡ rows-of t)
+  only-term n true h = lists-only (used tables counts) (lent-rooms before stack) program (take n after) (sym h)
+  only-term n false h = absurd (let z : _≡_ {A = ℕ} 0 1 = cc in omega arith)
+
+  pub gives-only : (r : Result ℕ Refusal) → Some (told r (λ n. take n after)) ≡ answer tables counts (lent-rooms before stack) program →
+      made r (λ n. (t : Term) × (g : ℕ) × Program (used tables counts) program g (trans t done) × (take n after ≡ rows-of t))
+  gives-only (Ok n) h = only-term n (within counts (rooms tables)) h
+  gives-only (Err e) h = tt

@@ -7,7 +7,7 @@ use native.Mathlib.Nat.{add-zero}
 use native.Mathlib.Omega.{arith}
 use lib.Dec.{ltb, eqb}
 use lib.IntN.{pos}
-use lib.ListN.{length}
+use lib.ListN.{length, length-map}
 use borrow.Author.Tests.{lt-ltb, le-ltb, ne-eqb}
 use Rattle.std.specs.declared.option.Option.the-variants.{Some, None}
 use Rattle.std.specs.declared.result.Result.{Result}
@@ -41,7 +41,7 @@ use Rattle.listing.proofs.Costs.{Turned, turned-cheaper, Begun, begun-cheaper}
 use Rattle.listing.proofs.Spines.{Spine, Entries, list-spine, own-rows, body-rows, rows-split, at, own-begun}
 use Rattle.listing.proofs.Nesting.{two-hundred}
 
-abbrev pend : ℕ → ℕ → ℕ → Pending
+abbrev pub pend : ℕ → ℕ → ℕ → Pending
 pend l j i = record { list = l; next = j; method = i }
 
 -- the method counter when a list ends
@@ -80,10 +80,10 @@ module _ (T : Text) (m : Room) where
   To t l k rows ps = Leads (at rows (pend l 0 0 ∷ ps)) (at (rows ++ body-rows t) (pend l k (last t) ∷ ps))
 
   module _ (l : ℕ) (e : ListEntry) (f : nth (T .contents) l ≡ Some e) where
-    step-found : (j i : ℕ) (o : Operation) → j < e .len → nth (T .operations) (e .first + j) ≡ Some o → step-of T (pend l j i) ≡ step-at T (pend l j i) o
+    pub step-found : (j i : ℕ) (o : Operation) → j < e .len → nth (T .operations) (e .first + j) ≡ Some o → step-of T (pend l j i) ≡ step-at T (pend l j i) o
     step-found j i o h g = ap (λ x. if-some x (step-in T (pend l j i)) step.Astray) f ∙ cond-true _ _ _ (lt-ltb j (e .len) h) ∙ ap (λ x. if-some x (step-at T (pend l j i)) step.Astray) g
 
-    step-ended : (j i : ℕ) → e .len ≤ j → step-of T (pend l j i) ≡ step.Ended
+    pub step-ended : (j i : ℕ) → e .len ≤ j → step-of T (pend l j i) ≡ step.Ended
     step-ended j i h = ap (λ x. if-some x (step-in T (pend l j i)) step.Astray) f ∙ cond-false _ _ _ (le-ltb j (e .len) h)
 
     -- the list begun and listed to its end
@@ -210,7 +210,7 @@ module _ (T : Text) (m : Room) where
       go ih (Ok u) e = let t = turned-cheaper T m rows p ps u h l e in ih (u .rows) (u .pending) (omega (arith, t .cheaper)) (t .fits) (t .lists)
       go ih (Err x) e = (Err x, refl)
 
-  at-end : (rows : List Row) (j : ℕ) (r : Result (List Row) Refusal) → walked j T m (at rows []) ≡ Some r → r ≡ Ok rows
+  pub at-end : (rows : List Row) (j : ℕ) (r : Result (List Row) Refusal) → walked j T m (at rows []) ≡ Some r → r ≡ Ok rows
   unfolding walked
   at-end rows zero r h = absurd (let z : _≡_ {A = ℕ} 0 1 = cc in omega arith)
   at-end rows (suc j) r h = cc
@@ -237,12 +237,8 @@ lists-back T m n g t p h q =
 pub program-there : (T U : Text) (g : ℕ) (t : Term) → Program (joined (compiled T g t) U) (length (T .contents)) g (trans t done)
 program-there T U g t = program-more (compiled T g t) U (length (T .contents)) g (trans t done) (laid-out T g t)
 
-plain-long : (rows : List Row) → length (map plain rows) ≡ length rows
-plain-long [] = refl
-plain-long (r ∷ rs) = ap suc (plain-long rs)
-
-pub rows-long : (rows : List Row) (t : Term) → map plain rows ≡ rows-of t → length (rows-of t) ≡ length rows
-rows-long rows t is = sym (ap length is) ∙ plain-long rows
+rows-long : (rows : List Row) (t : Term) → map plain rows ≡ rows-of t → length (rows-of t) ≡ length rows
+rows-long rows t is = sym (ap length is) ∙ length-map rows plain
 
 pub round-trip : RoundTrip
 round-trip T U rows g t m is fit h l =

@@ -6,3 +6,5 @@ pub mod Spines
 pub mod Nesting
 pub mod Leading
 pub mod Answering
+pub mod Extents
+pub mod Only

@@ -12,7 +12,7 @@ use borrow.Author.Tests.{lt-ltb, le-leb, ne-eqb}
 use Rattle.std.specs.declared.option.Option.the-variants.{Some, None}
 use Rattle.std.specs.declared.result.Result.the-variants.{Ok, Err}
 use Rattle.std.proofs.shelf.Lists.{length-append, append-assoc, append-nil}
-use Rattle.std.proofs.shelf.Tests.{cond-true, cond-false}
+use Rattle.std.proofs.shelf.Tests.{and-from, cond-true, cond-false}
 use Rattle.calculus.specs.declared.code.Operation.{Operation}
 use Rattle.calculus.specs.declared.code.Operation.the-variants as op
 use Rattle.calculus.specs.declared.code.ListEntry.{ListEntry}
@@ -149,10 +149,6 @@ own-some (update a l b) = omega arith
 own-some (clone a) = omega arith
 own-some (bind a b) = omega arith
 
-both : (x y : Bool) → x ≡ true → y ≡ true → (x && y) ≡ true
-both true y p q = q
-both false y p q = p
-
 module _ (T : Text) (room l : ℕ) (e : ListEntry) where
   row-is : (j : ℕ) (o : Operation) → nth (T .operations) (e .first + j) ≡ Some o → proper T l j o ≡ true → row-at T l e j ≡ Ok (row-of o)
   row-is j o p q = ap (λ x. if-some x (λ y. cond (proper T l j y) (Ok (row-of y)) (Err (Astray l j))) (Err (Astray l j))) p ∙ cond-true _ _ _ q
@@ -178,9 +174,9 @@ module _ (T : Text) (room l : ℕ) (e : ListEntry) where
       one j k rows o n p (q z) (omega arith) ∙ ih (rows ++ row-of o ∷ []) (omega arith) ∙ ap Ok (append-assoc rows (row-of o ∷ []) (own-rows t))
 
   above : (j n : ℕ) → l < n → 0 < j → (ltb 0 j && ltb l n) ≡ true
-  above j n h z = both (ltb 0 j) (ltb l n) (lt-ltb 0 j z) (lt-ltb l n h)
+  above j n h z = and-from (ltb 0 j) (ltb l n) (lt-ltb 0 j z) (lt-ltb l n h)
 
-  own-written : (k : ℕ) (t : Term) (rows : List Row) → Spine T l (e .first) k t → length rows + k ≤ room → written T room l e k rows ≡ Ok (rows ++ own-rows t)
+  pub own-written : (k : ℕ) (t : Term) (rows : List Row) → Spine T l (e .first) k t → length rows + k ≤ room → written T room l e k rows ≡ Ok (rows ++ own-rows t)
   own-written k (var i) rows s h = head k rows (op.Access i) (s .0) (s .1) refl h
   own-written k (val (Figure v)) rows s h = head k rows (op.Figure v) (s .0) (s .1) refl h
   own-written k (val (Location n)) rows s h = head k rows (op.Figure (pos 0)) (s .0) (s .1) refl h

@@ -22,6 +22,12 @@ ListsBack =
     (T : Text) (m : Room) (n g : ℕ) (t : Term) → Program T n g (trans t done) → length (rows-of t) ≤ m .of-rows → nesting t < m .of-lists →
     listed T m n ≡ Some (Ok (rows-of t))
 
+-- nothing else is listed back: whatever the tables hold, what lists back stands for the tree of a term, and the rows are that term's
+abbrev pub ListsOnly : Type 0
+ListsOnly =
+    (T : Text) (m : Room) (n : ℕ) (rows : List Row) → listed T m n ≡ Some (Ok rows) →
+    (t : Term) × (g : ℕ) × Program T n g (trans t done) × (rows ≡ rows-of t)
+
 -- 200 pending lists are enough for a term within the limits
 abbrev pub TwoHundred : Type 0
 TwoHundred = (t : Term) (g : ℕ) → fits t 1 g ≡ true → nesting t < 200

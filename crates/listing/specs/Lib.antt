@@ -6,3 +6,4 @@ pub mod Nesting
 pub mod Laws
 pub mod Back
 pub mod Examples
+pub mod Extent

@@ -16,9 +16,10 @@ ghost use Rattle.calculus.specs.Standing.{Program};
 ghost use Rattle.listing.specs.Areas.{told, lent-rooms};
 ghost use Rattle.listing.specs.Nesting.{nesting};
 ghost use Rattle.listing.specs.Back.{answer, Gave};
-ghost use Rattle.listing.specs.Laws.{ListsBack, TwoHundred, RoundTrip};
+ghost use Rattle.listing.specs.Laws.{ListsBack, ListsOnly, TwoHundred, RoundTrip};
 ghost use Rattle.listing.specs.Examples.{Worked};
 
+pub mod extent;
 pub mod pending;
 mod reading;
 mod turning;
@@ -45,6 +46,8 @@ pub fn list_back(
     ensures answer { λ r. ⌜ Some (told r (λ n. take n (now (area .exit)))) ≡ answer (now (tables .entry)) counts (lent-rooms (now (area .entry)) (now (stack .entry))) program ⌝ }
     // past the rows written the area is as it was
     ensures kept { λ r. ⌜ made r (λ n. (n ≤ length (now (area .exit))) × (drop n (now (area .exit)) ≡ drop n (now (area .entry)))) ⌝ }
+    // whatever the tables hold, what comes back is the rows of a term that the program stands for
+    ensures only { λ r. ⌜ made r (λ n. (t : Term) × (g : ℕ) × Program (used (now (tables .entry)) counts) program g (trans t done) × (take n (now (area .exit)) ≡ rows-of t)) ⌝ }
     // what stands for the tree of a term comes back as the term's rows, where there is room
     ensures stands { λ r. ⌜ ((t : Term) (g : ℕ) →
         within counts (rooms (now (tables .entry))) ≡ true →
@@ -69,6 +72,13 @@ pub fn list_back(
 /// A program that stands for the tree of a term is listed back as the term's rows.
 pub fn lists_back() -> u8
     ensures { λ _. ⌜ ListsBack ⌝ }
+{
+    0
+}
+
+/// Nothing else is listed back.
+pub fn lists_only() -> u8
+    ensures { λ _. ⌜ ListsOnly ⌝ }
 {
     0
 }

@@ -6,7 +6,7 @@ use Rattle.calculus.specs.declared.refusals.Refusal.the-variants.{CountOutside}
 use Rattle.calculus.specs.Text.{Text}
 use Rattle.listing.specs.Listing.{listed}
 use Rattle.listing.specs.Areas.{lent-rooms}
-use Rattle.listing.proofs.Answering.{kept-of, gives-term, gives-compiled}
+use Rattle.listing.proofs.Answering.{kept-of, gives-only, gives-term, gives-compiled}
 use Rattle.listing.proofs.list_back.Needs as need
 
 pub returns-in-Some : need.returns-in-Some
@@ -20,6 +20,7 @@ returns-in-Some c =
     record {
       answer = is;
       kept = kept-of (c .list-program .result) before after (w .kept);
+      only = gives-only (c .args .tables .now) (c .args .counts) (c .args .program) before after stack (c .list-program .result) is;
       stands = gives-term (c .args .tables .now) (c .args .counts) (c .args .program) (c .list-program .result) before after stack is (w .kept);
       compiled = gives-compiled (c .args .tables .now) (c .args .counts) (c .args .program) (c .list-program .result) before after stack is (w .kept);
     }
@@ -32,6 +33,7 @@ returns-in-None c =
     record {
       answer = is;
       kept = tt;
+      only = tt;
       stands = gives-term (c .args .tables .now) (c .args .counts) (c .args .program) (Err CountOutside) before before stack is tt;
       compiled = gives-compiled (c .args .tables .now) (c .args .counts) (c .args .program) (Err CountOutside) before before stack is tt;
     }

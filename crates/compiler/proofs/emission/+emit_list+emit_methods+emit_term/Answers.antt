@@ -6,7 +6,7 @@ use lib.ListN.{length}
 use Rattle.compiler.specs.Area.{Area, area}
 use Rattle.calculus.specs.declared.code.Operation.the-variants as op
 use Rattle.compiler.specs.Emit.{small, leaf-of, follower-of}
-use Rattle.compiler.proofs.Steps.{row-at}
+use Rattle.calculus.proofs.Sizes.{row-at}
 use Rattle.compiler.proofs.Ways.{ready-lt, list-lt, wrote-leaf, object-fits, object-room, wrote-object, one-room, one-slot, wrote-one, two-room, two-slot, wrote-two, list-fits, list-room, wrote-list, all-room, all-next, left-next, left-done}
 use Rattle.compiler.proofs.emission.+emit_list+emit_methods+emit_term.Needs as need
 
