@@ -7,6 +7,8 @@ ghost use Rattle.compiler.specs.Compile.{answer, Compiled, Untouched};
 ghost use Rattle.machine_model.specs.Start.{start-answer, start-state, unused};
 ghost use Rattle.machine_model.specs.Outcome.{run-outcome};
 ghost use Rattle.machine.specs.Machine.{state-of};
+ghost use Rattle.reference.specs.Calls as call;
+ghost use Rattle.session.specs.Steps.{Whole, Step};
 use crate::session::Session;
 use calculus::code::Counts;
 use calculus::code::Tables;
@@ -28,7 +30,8 @@ impl<'a, S: Store> Session<'a, S> {
         frames: &'a mut [Frame],
         store: S,
     ) -> Session<'a, S>
-        ensures { λ r. ⌜ state-of (r .machine) ≡ unused (counted (length (now (cells .entry)))) (counted (length (now (frames .entry)))) ⌝ }
+        ensures whole { λ r. ⌜ Whole (S·Store .meaning) r ⌝ }
+        ensures machine { λ r. ⌜ state-of (r .machine) ≡ unused (counted (length (now (cells .entry)))) (counted (length (now (frames .entry)))) ⌝ }
     {
         Session {
             tables,
@@ -50,6 +53,7 @@ impl<'a, S: Store> Session<'a, S> {
             (λ _. Untouched (now (self .entry) .tables) (now (self .entry) .counts) (now (self .exit) .tables) (now (self .exit) .counts)) ⌝ }
         ensures machine { λ _. ⌜ state-of (now (self .exit) .machine) ≡ state-of (now (self .entry) .machine) ⌝ }
         ensures store { λ _. ⌜ meaning (now (self .exit) .store) ≡ meaning (now (self .entry) .store) ⌝ }
+        ensures step { λ r. ⌜ (Whole (S·Store .meaning) (now (self .entry)) → Step (S·Store .meaning) (call.compile (now (rows .entry)) givens) (now (self .entry)) r (now (self .exit))) ⌝ }
     {
         compile(rows, givens, &mut self.tables, &mut self.counts)
     }
@@ -61,6 +65,7 @@ impl<'a, S: Store> Session<'a, S> {
         ensures tables { λ _. ⌜ now (self .exit) .tables ≡ now (self .entry) .tables ⌝ }
         ensures counts { λ _. ⌜ now (self .exit) .counts ≡ now (self .entry) .counts ⌝ }
         ensures store { λ _. ⌜ meaning (now (self .exit) .store) ≡ meaning (now (self .entry) .store) ⌝ }
+        ensures step { λ r. ⌜ (Whole (S·Store .meaning) (now (self .entry)) → Step (S·Store .meaning) (call.start program (now (givens .entry)) allowance) (now (self .entry)) r (now (self .exit))) ⌝ }
     {
         self.machine.start(
             &self.tables,
@@ -79,6 +84,7 @@ impl<'a, S: Store> Session<'a, S> {
         ensures store { λ _. ⌜ meaning (now (self .exit) .store) ≡ run-outcome n (now (self .entry) .tables) (now (self .entry) .counts) (state-of (now (self .entry) .machine)) (meaning (now (self .entry) .store)) .store ⌝ }
         ensures tables { λ _. ⌜ now (self .exit) .tables ≡ now (self .entry) .tables ⌝ }
         ensures counts { λ _. ⌜ now (self .exit) .counts ≡ now (self .entry) .counts ⌝ }
+        ensures step { λ r. ⌜ (Whole (S·Store .meaning) (now (self .entry)) → Step (S·Store .meaning) (call.run n) (now (self .entry)) r (now (self .exit))) ⌝ }
     {
         self.machine
             .run(&self.tables, self.counts, &mut self.store, n)
