@@ -49,98 +49,62 @@ mod tests {
     }
 
     #[test]
-    fn words(rt: LibcRuntime) -> Result<(), Fail> {
-        let heap = rt.alloc();
-        let new = Settings::new();
-        check_eq(lacks(heap, new, b"chek 0 F1")?, Expected::Keyword)?;
-        check_eq(lacks(heap, new, b"Check 0 F1")?, Expected::Keyword)?;
-        check_eq(lacks(heap, new, b"check0 F1")?, Expected::Keyword)?;
-        check_eq(lacks(heap, new, b"\xff\xfe")?, Expected::Keyword)?;
-        check_eq(lacks(heap, new, b"objects #")?, Expected::LineEnd)?;
-        check_eq(lacks(heap, new, b"open 1")?, Expected::LineEnd)?;
-        check_eq(lacks(heap, new, b"run 1 2")?, Expected::LineEnd)?;
-        check_eq(lacks(heap, new, b"keep")?, Expected::Trial)?;
-        check_eq(lacks(heap, new, b"put-back x")?, Expected::Trial)?;
-        check_eq(lacks(heap, new, b"code")?, Expected::Program)?;
-        check_eq(lacks(heap, new, b"start 1")?, Expected::Allowance)?;
-        check_eq(lacks(heap, new, b"check")?, Expected::Givens)
+    fn lines_that_are_none(rt: LibcRuntime) -> Result<(), Fail> {
+        let cases: [(&[u8], Expected); 43] = [
+            (b"chek 0 F1", Expected::Keyword),
+            (b"Check 0 F1", Expected::Keyword),
+            (b"check0 F1", Expected::Keyword),
+            (b"\xff\xfe", Expected::Keyword),
+            (b"objects #", Expected::LineEnd),
+            (b"open 1", Expected::LineEnd),
+            (b"run 1 2", Expected::LineEnd),
+            (b"keep", Expected::Trial),
+            (b"put-back x", Expected::Trial),
+            (b"code", Expected::Program),
+            (b"start 1", Expected::Allowance),
+            (b"check", Expected::Givens),
+            (b"run 4294967296", Expected::Reductions),
+            (b"run -1", Expected::Reductions),
+            (b"run +1", Expected::Reductions),
+            (b"list 99999999999999999999", Expected::Program),
+            (b"start 0 4294967296", Expected::Allowance),
+            (b"compile 0x1", Expected::Givens),
+            (b"compile 0 F9223372036854775808", Expected::Row),
+            (b"compile 0 F-9223372036854775809", Expected::Row),
+            (b"compile 0 S65536", Expected::Row),
+            (b"compile 0 256/0/0", Expected::Row),
+            (b"start 0 0 @4294967296", Expected::Value),
+            (b"check 0 V", Expected::Row),
+            (b"check 0 C1", Expected::Row),
+            (b"check 0 F1 X", Expected::Row),
+            (b"check 0 S-1", Expected::Row),
+            (b"check 0 1/2", Expected::Row),
+            (b"check 0 1/2/3/4", Expected::Row),
+            (b"check 0 //", Expected::Row),
+            (b"start 0 0 @", Expected::Value),
+            (b"start 0 0 @-1", Expected::Value),
+            (b"start 0 0 --1", Expected::Value),
+            (b"start 0 0 F1", Expected::Value),
+            (b"store", Expected::StoreKind),
+            (b"store trial trial flat", Expected::StoreKind),
+            (b"store trial trial trial sharing", Expected::StoreKind),
+            (b"store flat trial", Expected::LineEnd),
+            (b"lengths", Expected::AreaName),
+            (b"lengths cells 1 rows 2", Expected::AreaName),
+            (b"lengths cells", Expected::AreaLength),
+            (b"lengths cells 4294967296", Expected::AreaLength),
+            (b"lengths cells 1 frames 2 cells 1", Expected::AreaOnce),
+        ];
+        for (line, what) in cases {
+            check_eq(lacks(rt.alloc(), Settings::new(), line)?, what)?;
+        }
+        Ok(())
     }
 
     #[test]
-    fn numbers(rt: LibcRuntime) -> Result<(), Fail> {
+    fn settings_first(rt: LibcRuntime) -> Result<(), Fail> {
         let heap = rt.alloc();
-        let new = Settings::new();
-        check_eq(lacks(heap, new, b"run 4294967296")?, Expected::Reductions)?;
-        check_eq(lacks(heap, new, b"run -1")?, Expected::Reductions)?;
-        check_eq(lacks(heap, new, b"run +1")?, Expected::Reductions)?;
-        check_eq(
-            lacks(heap, new, b"list 99999999999999999999")?,
-            Expected::Program,
-        )?;
-        check_eq(
-            lacks(heap, new, b"start 0 4294967296")?,
-            Expected::Allowance,
-        )?;
-        check_eq(lacks(heap, new, b"compile 0x1")?, Expected::Givens)?;
-        check_eq(
-            lacks(heap, new, b"compile 0 F9223372036854775808")?,
-            Expected::Row,
-        )?;
-        check_eq(
-            lacks(heap, new, b"compile 0 F-9223372036854775809")?,
-            Expected::Row,
-        )?;
-        check_eq(lacks(heap, new, b"compile 0 S65536")?, Expected::Row)?;
-        check_eq(lacks(heap, new, b"compile 0 256/0/0")?, Expected::Row)?;
-        check_eq(lacks(heap, new, b"start 0 0 @4294967296")?, Expected::Value)
-    }
-
-    #[test]
-    fn rows_and_values(rt: LibcRuntime) -> Result<(), Fail> {
-        let heap = rt.alloc();
-        let new = Settings::new();
-        check_eq(lacks(heap, new, b"check 0 V")?, Expected::Row)?;
-        check_eq(lacks(heap, new, b"check 0 C1")?, Expected::Row)?;
-        check_eq(lacks(heap, new, b"check 0 F1 X")?, Expected::Row)?;
-        check_eq(lacks(heap, new, b"check 0 S-1")?, Expected::Row)?;
-        check_eq(lacks(heap, new, b"check 0 1/2")?, Expected::Row)?;
-        check_eq(lacks(heap, new, b"check 0 1/2/3/4")?, Expected::Row)?;
-        check_eq(lacks(heap, new, b"check 0 //")?, Expected::Row)?;
-        check_eq(lacks(heap, new, b"start 0 0 @")?, Expected::Value)?;
-        check_eq(lacks(heap, new, b"start 0 0 @-1")?, Expected::Value)?;
-        check_eq(lacks(heap, new, b"start 0 0 --1")?, Expected::Value)?;
-        check_eq(lacks(heap, new, b"start 0 0 F1")?, Expected::Value)
-    }
-
-    #[test]
-    fn settings(rt: LibcRuntime) -> Result<(), Fail> {
-        let heap = rt.alloc();
-        let new = Settings::new();
-        check_eq(lacks(heap, new, b"store")?, Expected::StoreKind)?;
-        check_eq(
-            lacks(heap, new, b"store trial trial flat")?,
-            Expected::StoreKind,
-        )?;
-        check_eq(
-            lacks(heap, new, b"store trial trial trial sharing")?,
-            Expected::StoreKind,
-        )?;
-        check_eq(lacks(heap, new, b"store flat trial")?, Expected::LineEnd)?;
-        check_eq(lacks(heap, new, b"lengths")?, Expected::AreaName)?;
-        check_eq(
-            lacks(heap, new, b"lengths cells 1 rows 2")?,
-            Expected::AreaName,
-        )?;
-        check_eq(lacks(heap, new, b"lengths cells")?, Expected::AreaLength)?;
-        check_eq(
-            lacks(heap, new, b"lengths cells 4294967296")?,
-            Expected::AreaLength,
-        )?;
-        check_eq(
-            lacks(heap, new, b"lengths cells 1 frames 2 cells 1")?,
-            Expected::AreaOnce,
-        )?;
-        let called = after(heap, new, b"objects")?;
+        let called = after(heap, Settings::new(), b"objects")?;
         check_eq(lacks(heap, called, b"store flat")?, Expected::SettingFirst)?;
         check_eq(
             lacks(heap, called, b"lengths cells 1")?,
