@@ -114,52 +114,59 @@ mod tests {
         check_eq(check_rows(&rows, 0), at(RowFault::Depth, 200))
     }
 
+    // Each fault at the first row, inside and at the last row; what fields may hold that a kind leaves unused.
     #[test]
-    fn faults_by_row() -> Result<(), Fail> {
-        let figure = row(FIGURE, 0, 1);
-        let lets = row(LET, 0, 0);
-        check_eq(check_rows(&[], 0), Err(Refusal::RowCount))?;
-        check_eq(check_rows(&[figure], 16), sizes(1, 1, 0))?;
-        check_eq(check_rows(&[figure], 17), Err(Refusal::GivenCount))?;
-        check_eq(check_rows(&[row(0, 0, 0)], 0), at(RowFault::Kind, 0))?;
-        check_eq(
-            check_rows(&[lets, figure, row(9, 0, 0)], 0),
-            at(RowFault::Kind, 2),
-        )?;
-        check_eq(
-            check_rows(&[row(OBJECT, 0, -1)], 0),
-            at(RowFault::MethodCount, 0),
-        )?;
-        check_eq(
-            check_rows(&[lets, row(OBJECT, 0, 65), figure], 0),
-            at(RowFault::MethodCount, 1),
-        )?;
-        check_eq(
-            check_rows(&[row(VARIABLE, 0, 0)], 3),
-            at(RowFault::Index, 0),
-        )?;
-        check_eq(
-            check_rows(&[row(VARIABLE, 0, 4)], 3),
-            at(RowFault::Index, 0),
-        )?;
-        check_eq(check_rows(&[lets, figure], 0), at(RowFault::Ends, 2))?;
-        check_eq(
-            check_rows(&[figure, row(9, 0, 0)], 0),
-            at(RowFault::Left, 1),
-        )
-    }
-
-    // Fields that a kind leaves unused are ignored.
-    #[test]
-    fn unused_fields() -> Result<(), Fail> {
-        check_eq(check_rows(&[row(VARIABLE, 65_535, 1)], 1), sizes(1, 1, 0))?;
-        check_eq(
-            check_rows(&[row(CLONE, 3, -5), row(FIGURE, 2, i64::MIN)], 0),
-            sizes(1, 2, 0),
-        )?;
-        check_eq(
-            check_rows(&[row(LET, 9, 9), row(OBJECT, 9, 0), row(VARIABLE, 9, 1)], 0),
-            sizes(2, 3, 0),
-        )
+    fn verdicts() -> Result<(), Fail> {
+        let f = row(FIGURE, 0, 1);
+        let l = row(LET, 0, 0);
+        let v = row(VARIABLE, 0, 1);
+        let m = row(METHOD, 4, 0);
+        let o = row(OBJECT, 0, 2);
+        let cases: [(&[Row], u32, Result<Sizes, Refusal>); 28] = [
+            (&[], 0, Err(Refusal::RowCount)),
+            (&[], 17, Err(Refusal::RowCount)),
+            (&[f], 16, sizes(1, 1, 0)),
+            (&[f], 17, Err(Refusal::GivenCount)),
+            (&[row(0, 0, 0)], 17, Err(Refusal::GivenCount)),
+            (&[row(0, 0, 0)], 0, at(RowFault::Kind, 0)),
+            (&[row(255, 0, 0), f], 0, at(RowFault::Kind, 0)),
+            (&[l, row(9, 0, 0), f], 0, at(RowFault::Kind, 1)),
+            (&[l, f, row(9, 0, 0)], 0, at(RowFault::Kind, 2)),
+            (&[m, f], 0, at(RowFault::Kind, 0)),
+            (&[l, f, m], 0, at(RowFault::Kind, 2)),
+            (&[o, f, f], 0, at(RowFault::Kind, 1)),
+            (&[row(OBJECT, 0, -1)], 0, at(RowFault::MethodCount, 0)),
+            (&[l, row(OBJECT, 0, 65), f], 0, at(RowFault::MethodCount, 1)),
+            (
+                &[l, f, row(OBJECT, 0, i64::MIN)],
+                0,
+                at(RowFault::MethodCount, 2),
+            ),
+            (&[o, m, f, m, f], 0, at(RowFault::LabelTwice, 3)),
+            (&[o, m, f, m], 0, at(RowFault::LabelTwice, 3)),
+            (&[row(VARIABLE, 0, 0)], 3, at(RowFault::Index, 0)),
+            (&[row(VARIABLE, 0, 4)], 3, at(RowFault::Index, 0)),
+            (&[l, v, v], 0, at(RowFault::Index, 1)),
+            (&[l, f, row(VARIABLE, 0, 2)], 0, at(RowFault::Index, 2)),
+            (&[l, f, row(VARIABLE, 0, 2)], 1, sizes(2, 3, 0)),
+            (&[l], 0, at(RowFault::Ends, 1)),
+            (&[o, m, f], 0, at(RowFault::Ends, 3)),
+            (&[f, row(9, 0, 0)], 0, at(RowFault::Left, 1)),
+            (&[row(VARIABLE, 65_535, 1)], 1, sizes(1, 1, 0)),
+            (
+                &[row(CLONE, 3, -5), row(FIGURE, 2, i64::MIN)],
+                0,
+                sizes(1, 2, 0),
+            ),
+            (
+                &[row(LET, 9, 9), row(OBJECT, 9, 0), row(VARIABLE, 9, 1)],
+                0,
+                sizes(2, 3, 0),
+            ),
+        ];
+        for (rows, givens, verdict) in cases {
+            check_eq(check_rows(rows, givens), verdict)?;
+        }
+        Ok(())
     }
 }
