@@ -72,7 +72,7 @@ pub impl<'a> Store for FlatStore<'a> as FlatKind {
     ghost meaning = { flat-meaning };
 
     fn object_count(&self) -> u32 {
-        self.object_count
+        self.object_count // entries past it may hold anything
     }
 
     fn object_limit(&self) -> u32 {

@@ -118,7 +118,7 @@ pub impl<'a> Store for SharingStore<'a> as SharingKind {
     ghost meaning = { sharing-meaning };
 
     fn object_count(&self) -> u32 {
-        self.object_count
+        self.object_count // entries past it may hold anything
     }
 
     fn object_limit(&self) -> u32 {

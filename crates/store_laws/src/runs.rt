@@ -8,10 +8,8 @@ ghost use Rattle.store_laws.specs.Runs.{answer-to, meaning-after, answers-to, 
 use calculus::code::MethodEntry;
 use store::closures::Closure;
 use store::closures::Method;
-use store::closures::MethodDebug;
 use store::closures::MethodPartialEq;
 use store::faults::StoreFault;
-use store::faults::StoreFaultDebug;
 use store::faults::StoreFaultPartialEq;
 use store::store::Store;
 
@@ -34,7 +32,7 @@ pub enum StoreCall {
 }
 
 /// What a store answers.
-#[derive(Clone, Copy, PartialEq, Eq, Debug)]
+#[derive(Clone, Copy, PartialEq, Eq)]
 pub enum StoreAnswer {
     /// A count, a limit or a size.
     Number(u32),
