@@ -7,9 +7,9 @@ use store::closures::Closure;
 use store::closures::Method;
 use store::layout::Span;
 use store::store::Store;
+use trial_layer::calls::TrialKind;
 use trial_layer::faults::TrialFault;
 use trial_layer::layer::TrialLayer;
-use trial_layer::trial_store::TrialStore;
 
 // Writes each object: its location, and each of its methods as label, list and environment.
 fn show<S: Store>(rt: &impl Print, when: &str, store: &S) -> io::Result<()> {

@@ -13,11 +13,11 @@ use store::store::Store;
 use store_laws::runs::StoreAnswer;
 use store_laws::runs::StoreCall;
 use store_laws::runs::perform_all;
+use trial_layer::calls::TrialKind;
 use trial_layer::faults::TrialFault;
 use trial_layer::faults::TrialFaultDebug;
 use trial_layer::layer::TrialLayer;
 use trial_layer::token::Token;
-use trial_layer::trial_store::TrialStore;
 
 /// The store that a trial layer is put on.
 #[derive(Clone, Copy)]

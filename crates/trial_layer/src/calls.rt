@@ -9,7 +9,7 @@ use store::closures::OldMethod;
 use store::faults::StoreFault;
 use store::store::Store;
 
-pub impl<S: Store> Store for TrialLayer<S> as TrialStore {
+pub impl<S: Store> Store for TrialLayer<S> as TrialKind {
     ghost meaning = { λ t. layer-meaning (S·Store .meaning) t };
 
     fn object_count(&self) -> u32 {
