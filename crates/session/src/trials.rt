@@ -1,6 +1,8 @@
 //! The trial calls of a session whose store is a trial layer.
 ghost use mathlib.Core.Path.{_≡_};
 ghost use Rattle.machine.specs.Machine.{state-of};
+ghost use Rattle.reference.specs.Calls as call;
+ghost use Rattle.session.specs.Steps.{Whole, Step};
 ghost use Rattle.trial_layer.specs.Layers.{layer-meaning};
 ghost use Rattle.trial_layer.specs.Trials.{open-result, opening, keep-result, kept, back-result, put-back};
 use crate::session::Session;
@@ -17,6 +19,7 @@ impl<'a, S: Store> Session<'a, TrialLayer<S>> {
         ensures machine { λ _. ⌜ state-of (now (self .exit) .machine) ≡ state-of (now (self .entry) .machine) ⌝ }
         ensures tables { λ _. ⌜ now (self .exit) .tables ≡ now (self .entry) .tables ⌝ }
         ensures counts { λ _. ⌜ now (self .exit) .counts ≡ now (self .entry) .counts ⌝ }
+        ensures step { λ r. ⌜ (Whole (layer-meaning (S·Store .meaning)) (now (self .entry)) → Step (layer-meaning (S·Store .meaning)) call.open-trial (now (self .entry)) r (now (self .exit))) ⌝ }
     {
         self.store.open()
     }
@@ -28,6 +31,7 @@ impl<'a, S: Store> Session<'a, TrialLayer<S>> {
         ensures machine { λ _. ⌜ state-of (now (self .exit) .machine) ≡ state-of (now (self .entry) .machine) ⌝ }
         ensures tables { λ _. ⌜ now (self .exit) .tables ≡ now (self .entry) .tables ⌝ }
         ensures counts { λ _. ⌜ now (self .exit) .counts ≡ now (self .entry) .counts ⌝ }
+        ensures step { λ r. ⌜ (Whole (layer-meaning (S·Store .meaning)) (now (self .entry)) → Step (layer-meaning (S·Store .meaning)) (call.keep (token .number)) (now (self .entry)) r (now (self .exit))) ⌝ }
     {
         self.store.keep(token)
     }
@@ -39,6 +43,7 @@ impl<'a, S: Store> Session<'a, TrialLayer<S>> {
         ensures machine { λ _. ⌜ state-of (now (self .exit) .machine) ≡ state-of (now (self .entry) .machine) ⌝ }
         ensures tables { λ _. ⌜ now (self .exit) .tables ≡ now (self .entry) .tables ⌝ }
         ensures counts { λ _. ⌜ now (self .exit) .counts ≡ now (self .entry) .counts ⌝ }
+        ensures step { λ r. ⌜ (Whole (layer-meaning (S·Store .meaning)) (now (self .entry)) → Step (layer-meaning (S·Store .meaning)) (call.put-back (token .number)) (now (self .entry)) r (now (self .exit))) ⌝ }
     {
         self.store.put_back(token)
     }
