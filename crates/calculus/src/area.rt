@@ -1,8 +1,6 @@
 //! What is used of a code area.
 ghost use mathlib.Core.Path.{_≡_};
 ghost use mathlib.Core.Bool.{true, false};
-ghost use Prim.Native.Nat.{ℕ, _≤_};
-ghost use lib.ListN.{length};
 ghost use Rattle.std.specs.Options.{Cases as BySome};
 ghost use Rattle.calculus.specs.Held.{counted};
 ghost use Rattle.calculus.specs.Text.{text-of, used, rooms, within};

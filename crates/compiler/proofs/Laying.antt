@@ -1,10 +1,10 @@
 -- What emission writes is the layout.
-use mathlib.Core.Path.{_≡_, refl, ap, ap₂, sym, _∙_, subst}
-use mathlib.Core.List.{List, [], _∷_, _++_, append-assoc, append-nil}
-use Prim.Native.Nat.{ℕ, zero, suc, _+_, _-_, _≤_, _<_}
+use mathlib.Core.Path.{_≡_, refl, ap, ap₂, sym, _∙_}
+use mathlib.Core.List.{List, [], _∷_, _++_}
+use Prim.Native.Nat.{ℕ, suc, _+_, _-_, _≤_, _<_}
 use native.Mathlib.Omega.{arith}
 use lib.IntN.{pos}
-use lib.ListN.{length, set, take, length-set, length-append}
+use lib.ListN.{length, set, take, length-append}
 use Rattle.calculus.specs.Terms.{Term, Methods, var, val, object, select, update, clone, bind, nil, method}
 use Rattle.calculus.specs.Rows.{many}
 use Rattle.calculus.specs.declared.code.ListEntry.{ListEntry}
@@ -12,7 +12,7 @@ use Rattle.calculus.specs.declared.code.MethodEntry.{MethodEntry}
 use Rattle.calculus.specs.declared.code.Operation.{Operation}
 use Rattle.calculus.specs.declared.code.Operation.the-variants as op
 use Rattle.calculus.specs.declared.values.Value.the-variants.{Figure, Location}
-use Rattle.calculus.specs.Sizes.{bodies, bodies-all, entries, entries-all}
+use Rattle.calculus.specs.Sizes.{bodies, entries}
 use Rattle.compiler.specs.Fronts.{followers, inner, inner-all}
 use Rattle.compiler.specs.Area.{Area, opened, wrote, reserved, named}
 use Rattle.compiler.specs.Emit.{put, put-methods, put-list}
@@ -20,7 +20,7 @@ use Rattle.calculus.specs.Layout.{spine, lists, lists-all, own, table, table-al
 use Rattle.calculus.specs.Text.{Text, joined}
 use Rattle.calculus.specs.declared.code.Counts.{Counts}
 use Rattle.layout.proofs.Lengths.{flat-append, contents-length, lists-length, own-length, table-length, layout-sizes}
-use Rattle.compiler.proofs.Views.{Sized, sized, sized-all, sized-list}
+use Rattle.compiler.proofs.Views.{sized, sized-list}
 use Rattle.compiler.proofs.Paste.{paste, paste-append, set-paste, paste-paste, paste-used, paste-below}
 
 -- lengths

@@ -1,8 +1,8 @@
 -- A checked program that finds room is placed.
-use mathlib.Core.Path.{_≡_, refl, ap, ap₂, sym, _∙_, subst}
-use mathlib.Core.List.{List, [], _∷_, _++_, append-nil, map}
-use mathlib.Core.Bool.{Bool, true, false, cond, _&&_}
-use Prim.Native.Nat.{ℕ, zero, suc, _+_, _≤_, _<_, _^_}
+use mathlib.Core.Path.{_≡_, refl, ap, sym, _∙_, subst}
+use mathlib.Core.List.{List, [], _∷_, append-nil, map}
+use mathlib.Core.Bool.{Bool, true, false, cond}
+use Prim.Native.Nat.{ℕ, suc, _+_, _≤_, _<_, _^_}
 use native.Mathlib.Omega.{arith}
 use lib.Dec.{leb, ltb}
 use lib.ListN.{length, take}
@@ -10,20 +10,17 @@ use lib.Seq.{length-take-le}
 use denote.Ref.{now}
 use borrow.Author.Tests.{leb-true, le-leb, le-ltb}
 use Rattle.std.proofs.shelf.Tests.{and-parts, cond-true, cond-false}
-use Rattle.std.specs.declared.result.Result.{Result}
 use Rattle.std.specs.declared.result.Result.the-variants.{Ok, Err}
 use Rattle.calculus.specs.declared.rows.Row.{Row}
 use Rattle.calculus.specs.declared.rows.Sizes.{Sizes}
 use Rattle.calculus.specs.declared.code.Counts.{Counts}
 use Rattle.calculus.specs.declared.code.Tables.{Tables}
-use Rattle.calculus.specs.declared.refusals.Refusal.{Refusal}
-use Rattle.calculus.specs.declared.refusals.Refusal.the-variants.{CountOutside, ContentsFull, OperationsFull, MethodsFull}
-use Rattle.calculus.specs.declared.values.Value.the-variants.{Figure, Location}
+use Rattle.calculus.specs.declared.refusals.Refusal.the-variants.{ContentsFull, OperationsFull, MethodsFull}
 use Rattle.calculus.specs.Held.{counted}
 use Rattle.calculus.specs.Terms.{Term, var, val, object, select, update, clone, bind, Methods, nil, method}
 use Rattle.calculus.specs.Rows.{rows-of, plain}
 use Rattle.calculus.specs.Sizes.{bodies, nodes, nodes-all, entries, term-sizes, row-sizes, tally, has-body, is-method, is-operation}
-use Rattle.calculus.specs.Trees.{Code, trans, done}
+use Rattle.calculus.specs.Trees.{trans, done}
 use Rattle.calculus.specs.Text.{Text, used, joined, rooms, within}
 use Rattle.calculus.specs.Layout.{layout, lengths, compiled}
 use Rattle.calculus.specs.Standing.{Stands, Program}
@@ -33,7 +30,7 @@ use Rattle.rows.specs.Verdict.{verdict}
 use Rattle.rows.specs.Laws.{Writes}
 use Rattle.compiler.specs.Fronts.{followers, inner, inner-all}
 use Rattle.compiler.specs.Area.{Area, area}
-use Rattle.compiler.specs.Emit.{Fit, ReadyList, WroteList, put-list}
+use Rattle.compiler.specs.Emit.{ReadyList, WroteList, put-list}
 use Rattle.compiler.specs.Compile.{moved-by, placed, answer, Compiled}
 use Rattle.compiler.proofs.Views.{Sized, sized-list}
 use Rattle.compiler.proofs.Laying.{text, appended, below}

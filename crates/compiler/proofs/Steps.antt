@@ -1,18 +1,16 @@
 -- Rows with their unused fields left out, and the number of rows in front of a head.
 use mathlib.Core.Path.{_≡_, refl, ap, sym, _∙_}
 use mathlib.Core.List.{List, [], _∷_, _++_, append-assoc, map}
-use mathlib.Core.Bool.{Bool, true, false, cond}
-use Prim.Native.Nat.{ℕ, zero, suc, _+_, _-_, _≤_, _<_}
+use mathlib.Core.Bool.{cond}
+use Prim.Native.Nat.{ℕ, suc, _+_, _-_, _≤_, _<_}
 use native.Mathlib.Omega.{arith}
-use lib.Dec.{leb, eqb}
-use lib.IntN.{ℤ, pos}
-use lib.ListN.{length, set, drop, getD, length-append, length-drop, length-set}
-use Rattle.std.proofs.shelf.Lists.{drop-map, drop-more, drop-all, at-drop-more, at-drop-all}
-use Rattle.std.proofs.shelf.Ways.{tells}
+use lib.Dec.{leb}
+use lib.ListN.{length, drop, length-append, length-drop}
+use Rattle.std.proofs.shelf.Lists.{drop-map, drop-more, at-drop-more, at-drop-all}
 use Rattle.calculus.specs.declared.rows.Row.{Row}
 use Rattle.calculus.specs.declared.values.Value.the-variants.{Figure, Location}
-use Rattle.calculus.specs.Terms.{Term, Methods, var, val, object, select, update, clone, bind, nil, method}
-use Rattle.calculus.specs.Rows.{many, rows-of, method-rows, plain}
+use Rattle.calculus.specs.Terms.{Term, var, val, object, select, update, clone, bind}
+use Rattle.calculus.specs.Rows.{rows-of, plain}
 use Rattle.calculus.proofs.Sizes.{blank, row-at}
 use Rattle.compiler.specs.Fronts.{followers, front}
 

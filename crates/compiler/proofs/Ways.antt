@@ -1,12 +1,10 @@
 -- What each way of the emission needs and shows.
 use mathlib.Core.Path.{_≡_, refl, ap, sym, _∙_, subst}
 use mathlib.Core.List.{List, [], _∷_, _++_, append-assoc, map}
-use mathlib.Core.Bool.{cond, _||_, _&&_}
-use Prim.Native.Nat.{ℕ, zero, suc, _+_, _-_, _≤_, _<_, _^_}
+use Prim.Native.Nat.{ℕ, _+_, _-_, _≤_, _<_, _^_}
 use native.Mathlib.Omega.{arith}
-use lib.Dec.{leb, eqb}
-use lib.IntN.{ℤ, pos}
-use lib.ListN.{length, set, drop, length-set, length-map, List·getD-map}
+use lib.IntN.{pos}
+use lib.ListN.{length, drop, length-set, length-map, List·getD-map}
 use Rattle.std.proofs.shelf.Ways.{tells}
 use Rattle.calculus.specs.declared.rows.Row.{Row}
 use Rattle.calculus.specs.Terms.{Term, Methods, var, val, object, select, update, clone, bind, nil, method}
@@ -14,13 +12,13 @@ use Rattle.calculus.specs.Rows.{many, rows-of, method-rows, plain}
 use Rattle.calculus.specs.declared.code.Operation.{Operation}
 use Rattle.calculus.specs.declared.code.Operation.the-variants as op
 use Rattle.calculus.specs.declared.values.Value.the-variants.{Figure, Location}
-use Rattle.calculus.specs.Sizes.{bodies, bodies-all, entries, entries-all}
-use Rattle.compiler.specs.Fronts.{followers, inner, inner-all, front}
+use Rattle.calculus.specs.Sizes.{bodies-all, entries-all}
+use Rattle.compiler.specs.Fronts.{followers, inner-all, front}
 use Rattle.compiler.specs.Area.{Area, opened, wrote, reserved, named}
 use Rattle.compiler.specs.Emit.{small, leaf-of, follower-of, put, put-methods, put-list, Fit, FitAll, Wide, Ready, ReadyList, ReadyAll, Wrote, WroteList, WroteAll, LeftAll}
 use Rattle.calculus.proofs.Sizes.{blank, row-at}
 use Rattle.compiler.proofs.Steps.{front-same, front-is, at-lt, cons-lt, uncons}
-use Rattle.compiler.proofs.Views.{first, after, begins, Leaf, is-leaf, Obj, is-object, One, is-one, Two, is-two, fit-method, Sized, sized, sized-list}
+use Rattle.compiler.proofs.Views.{first, after, begins, is-leaf, Obj, is-object, One, is-one, Two, is-two, fit-method, Sized, sized, sized-list}
 
 -- the code reads only what a row's kind uses
 leaf-plain : (r : Row) → r .kind ≤ 2 → leaf-of r ≡ leaf-of (plain r)

@@ -1,8 +1,8 @@
 //! The lists of a term, written into the tables in one descent.
 ghost use mathlib.Core.Path.{_≡_};
-ghost use mathlib.Core.List.{List, [], _∷_, _++_, map};
-ghost use Prim.Native.Nat.{ℕ, _+_, _-_, _*_, _<_, _≤_, _^_};
-ghost use lib.ListN.{length, getD, set, take, drop};
+ghost use mathlib.Core.List.{map};
+ghost use Prim.Native.Nat.{_+_, _-_, _<_, _≤_};
+ghost use lib.ListN.{length, drop};
 ghost use Rattle.calculus.specs.Rows.{plain};
 ghost use Rattle.compiler.specs.Fronts.{front};
 ghost use Rattle.compiler.specs.Area.{area};

@@ -1,6 +1,5 @@
 //! Rows become operation lists.
 ghost use mathlib.Core.Path.{_≡_};
-ghost use Prim.Native.Nat.{ℕ, _+_, _<_, _≤_, _^_};
 ghost use Rattle.std.specs.Results.{Cases};
 ghost use Rattle.compiler.specs.Compile.{answer, Compiled, Untouched};
 

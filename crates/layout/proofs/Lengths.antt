@@ -5,13 +5,12 @@ use Prim.Native.Nat.{ℕ, suc, _+_}
 use native.Mathlib.Omega.{arith}
 use lib.ListN.{length, length-append}
 use Rattle.calculus.specs.declared.code.Operation.{Operation}
-use Rattle.calculus.specs.declared.code.Counts.{Counts}
 use Rattle.calculus.specs.declared.values.Value.the-variants.{Figure, Location}
 use Rattle.calculus.specs.Terms.{Term, var, val, object, select, update, clone, bind, Methods, nil, method}
 use Rattle.calculus.specs.Rows.{many}
 use Rattle.calculus.specs.Sizes.{bodies, bodies-all, nodes, nodes-all, entries, entries-all}
 use Rattle.calculus.specs.Layout.{spine, lists, lists-all, own, table, table-all, contents-of, flat, layout}
-use Rattle.layout.specs.Laws.{Takes, LayoutSizes}
+use Rattle.layout.specs.Laws.{LayoutSizes}
 
 pub flat-append : (xs ys : List (List Operation)) → flat (xs ++ ys) ≡ flat xs ++ flat ys
 flat-append [] ys = refl

@@ -1,7 +1,7 @@
 -- Rows are those of one term at most: read from the last to the first, with the terms and methods that are complete so far.
 use mathlib.Core.Path.{_≡_, refl, ap, ap₂, sym, _∙_}
-use mathlib.Core.List.{List, [], _∷_, _++_, append-assoc, map}
-use mathlib.Core.Bool.{Bool, true, false, not, _&&_}
+use mathlib.Core.List.{List, [], _∷_, _++_, append-assoc}
+use mathlib.Core.Bool.{true, not}
 use Prim.Native.Nat.{ℕ, zero, suc, _+_}
 use native.Mathlib.Omega.{arith}
 use lib.Dec.{leb}
@@ -11,7 +11,7 @@ use Rattle.std.proofs.shelf.Tests.{and-parts}
 use Rattle.calculus.specs.declared.rows.Row.{Row}
 use Rattle.calculus.specs.declared.values.Value.the-variants.{Figure, Location}
 use Rattle.calculus.specs.Terms.{Term, var, val, object, select, update, clone, bind, Methods, nil, method, Static, StaticAll}
-use Rattle.calculus.specs.Rows.{many, row, rows-of, method-rows, plain, Is, fits, fit-methods, has}
+use Rattle.calculus.specs.Rows.{many, row, rows-of, method-rows, fits, fit-methods, has}
 use Rattle.layout.specs.Laws.{OneTerm}
 
 data Item : Type 0 where

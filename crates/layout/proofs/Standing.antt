@@ -1,7 +1,7 @@
 -- The layout stands for the tree of the compiled term, and what is appended disturbs nothing.
-use mathlib.Core.Path.{_≡_, refl, ap, sym, _∙_, subst}
+use mathlib.Core.Path.{_≡_, refl, ap, sym, subst}
 use mathlib.Core.List.{List, [], _∷_, _++_}
-use Prim.Native.Nat.{ℕ, zero, suc, _+_, _≤_, _<_}
+use Prim.Native.Nat.{ℕ, suc, _+_, _<_}
 use native.Mathlib.Omega.{arith}
 use lib.ListN.{length, length-append}
 use Rattle.std.specs.declared.option.Option.the-variants.{Some}
@@ -18,7 +18,7 @@ use Rattle.calculus.specs.Text.{Text, joined}
 use Rattle.calculus.specs.Layout.{spine, lists, lists-all, own, table, table-all, contents-of, flat, layout, lengths, compiled}
 use Rattle.calculus.specs.Standing.{Listed, Named, CodeAt, RestAt, BodiesAt, Stands, AtRest, AtCode, Program}
 use Rattle.layout.specs.Laws.{LaidOut, Lasts}
-use Rattle.layout.proofs.Parts.{get-more, Part, part-in, part-front, part-back, part-append}
+use Rattle.layout.proofs.Parts.{get-more, Part, part-front, part-back, part-append}
 use Rattle.layout.proofs.Lengths.{lists-length, own-length, table-length}
 
 module _ (T U : Text) where

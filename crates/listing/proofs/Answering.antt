@@ -1,12 +1,12 @@
 -- What the answer says of a term.
 use mathlib.Core.Bool.{Bool, true, false, cond}
-use mathlib.Core.List.{List, [], _∷_, _++_, map}
-use mathlib.Core.Path.{_≡_, refl, sym, ap, subst, _∙_}
+use mathlib.Core.List.{List, _++_, map}
+use mathlib.Core.Path.{_≡_, sym, ap, _∙_}
 use Prim.Native.Nat.{ℕ, _+_, _<_, _≤_}
 use native.Mathlib.Omega.{arith}
 use lib.ListN.{length, take, drop}
 use Rattle.std.specs.Vec.{made}
-use Rattle.std.specs.declared.option.Option.the-variants.{Some, None}
+use Rattle.std.specs.declared.option.Option.the-variants.{Some}
 use Rattle.std.specs.declared.result.Result.{Result}
 use Rattle.std.specs.declared.result.Result.the-variants.{Ok, Err}
 use Rattle.std.proofs.shelf.Lists.{take-append-drop}
@@ -24,7 +24,7 @@ use Rattle.calculus.specs.Text.{Text, used, joined, rooms, within}
 use Rattle.calculus.specs.Layout.{compiled}
 use Rattle.calculus.specs.Standing.{Program}
 use Rattle.listing.specs.declared.pending.Pending.{Pending}
-use Rattle.listing.specs.Listing.{Room, listed}
+use Rattle.listing.specs.Listing.{listed}
 use Rattle.listing.specs.Areas.{told, lent-rooms, Wrote}
 use Rattle.listing.specs.Nesting.{nesting}
 use Rattle.listing.specs.Back.{answer, Gave}

@@ -1,8 +1,8 @@
 -- The lists of a program.
-use mathlib.Core.Path.{_≡_, refl, sym, ap, _∙_}
+use mathlib.Core.Path.{_≡_, refl, ap, _∙_}
 use mathlib.Core.Bool.{cond}
 use mathlib.Core.List.{List, [], _∷_, _++_}
-use Prim.Native.Nat.{ℕ, zero, suc, _+_, _<_, _≤_}
+use Prim.Native.Nat.{ℕ, suc, _+_, _<_, _≤_}
 use native.Mathlib.Numerals.{add-one}
 use native.Mathlib.Omega.{arith}
 use lib.Dec.{eqb}
@@ -13,14 +13,12 @@ use Rattle.std.specs.declared.option.Option.the-variants.{Some, None}
 use Rattle.std.proofs.shelf.Lists.{at-drop-more, at-drop-all}
 use Rattle.calculus.specs.declared.code.ListEntry.{ListEntry}
 use Rattle.calculus.specs.declared.code.Operation.{Operation}
-use Rattle.calculus.specs.declared.code.Counts.{Counts}
 use Rattle.calculus.specs.Places.{nth, if-some}
-use Rattle.calculus.specs.Terms.{Term}
-use Rattle.calculus.specs.Sizes.{bodies, term-sizes}
-use Rattle.calculus.specs.Text.{Text, joined}
-use Rattle.calculus.specs.Layout.{spine, lists, contents-of, layout, lengths, compiled}
+use Rattle.calculus.specs.Sizes.{bodies}
+use Rattle.calculus.specs.Text.{joined}
+use Rattle.calculus.specs.Layout.{spine, lists, contents-of, compiled}
 use Rattle.layout.proofs.Lengths.{lists-length}
-use Rattle.listing.specs.Extent.{run, end-of, Extent}
+use Rattle.listing.specs.Extent.{run, Extent}
 
 abbrev pub blank : ListEntry
 blank = record { first = 0; len = 0; mark = 0 }

@@ -1,15 +1,15 @@
 -- A list that stands for a term is listed back as the term's rows.
-use mathlib.Core.Bool.{Bool, true, false, cond}
+use mathlib.Core.Bool.{cond}
 use mathlib.Core.List.{List, [], _∷_, _++_, map}
 use mathlib.Core.Path.{_≡_, refl, sym, ap, subst, _∙_}
-use Prim.Native.Nat.{ℕ, zero, suc, max, _+_, _-_, _*_, _<_, _≤_}
+use Prim.Native.Nat.{ℕ, zero, suc, _+_, _-_, _*_, _<_, _≤_}
 use native.Mathlib.Nat.{add-zero}
 use native.Mathlib.Omega.{arith}
 use lib.Dec.{ltb, eqb}
 use lib.IntN.{pos}
 use lib.ListN.{length, length-map}
 use borrow.Author.Tests.{lt-ltb, le-ltb, ne-eqb}
-use Rattle.std.specs.declared.option.Option.the-variants.{Some, None}
+use Rattle.std.specs.declared.option.Option.the-variants.{Some}
 use Rattle.std.specs.declared.result.Result.{Result}
 use Rattle.std.specs.declared.result.Result.the-variants.{Ok, Err}
 use Rattle.std.proofs.shelf.Lists.{length-append, append-assoc, append-nil}
@@ -27,7 +27,7 @@ use Rattle.calculus.specs.Rows.{many, rows-of, method-rows, plain}
 use Rattle.calculus.specs.Trees.{trans, done}
 use Rattle.calculus.specs.Text.{Text, joined}
 use Rattle.calculus.specs.Layout.{compiled}
-use Rattle.calculus.specs.Standing.{Listed, Named, Program}
+use Rattle.calculus.specs.Standing.{Named, Program}
 use Rattle.layout.proofs.Standing.{laid-out, program-more}
 use Rattle.listing.specs.declared.pending.Pending.{Pending}
 use Rattle.listing.specs.declared.pending.Step.{Step}
@@ -37,7 +37,7 @@ use Rattle.listing.specs.Listing.{State, Room, then, put, fresh, begun, carrie
 use Rattle.listing.specs.Cost.{cost, load}
 use Rattle.listing.specs.Nesting.{nesting, nesting-all}
 use Rattle.listing.specs.Laws.{ListsBack, RoundTrip}
-use Rattle.listing.proofs.Costs.{Turned, turned-cheaper, Begun, begun-cheaper}
+use Rattle.listing.proofs.Costs.{turned-cheaper, begun-cheaper}
 use Rattle.listing.proofs.Spines.{Spine, Entries, list-spine, own-rows, body-rows, rows-split, at, own-begun}
 use Rattle.listing.proofs.Nesting.{two-hundred}
 

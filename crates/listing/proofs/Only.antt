@@ -1,20 +1,19 @@
 -- What lists back stands for a term, and has that term's rows.
-use mathlib.Core.Bool.{Bool, true, false, cond, _&&_}
+use mathlib.Core.Bool.{Bool, true, false, cond}
 use mathlib.Core.List.{List, [], _∷_, _++_}
 use mathlib.Core.Path.{_≡_, refl, sym, ap, subst, _∙_}
 use Prim.Native.Nat.{ℕ, zero, suc, _+_, _-_, _*_, _<_, _≤_}
 use native.Mathlib.Nat.{add-zero}
 use native.Mathlib.Omega.{arith}
-use lib.Dec.{ltb, leb, eqb}
-use lib.IntN.{pos}
+use lib.Dec.{ltb, eqb}
 use lib.ListN.{length}
-use borrow.Author.Tests.{ltb-true, ltb-false, leb-true, eqb-true, eqb-false, lt-ltb, le-ltb}
+use borrow.Author.Tests.{ltb-true, ltb-false, leb-true, eqb-true, eqb-false}
 use Rattle.std.specs.declared.option.Option.{Option}
 use Rattle.std.specs.declared.option.Option.the-variants.{Some, None}
 use Rattle.std.specs.declared.result.Result.{Result}
 use Rattle.std.specs.declared.result.Result.the-variants.{Ok, Err}
-use Rattle.std.proofs.shelf.Lists.{length-append, append-assoc, append-nil}
-use Rattle.std.proofs.shelf.Tests.{and-parts, cond-true, cond-false}
+use Rattle.std.proofs.shelf.Lists.{append-assoc, append-nil}
+use Rattle.std.proofs.shelf.Tests.{and-parts}
 use Rattle.calculus.specs.declared.code.Operation.{Operation}
 use Rattle.calculus.specs.declared.code.Operation.the-variants as op
 use Rattle.calculus.specs.declared.code.ListEntry.{ListEntry}
@@ -30,11 +29,10 @@ use Rattle.calculus.specs.Trees.{Rest, done, selectOp, updateOp, cloneOp, letOp
 use Rattle.calculus.specs.Text.{Text}
 use Rattle.calculus.specs.Standing.{Listed, Named, CodeAt, RestAt, BodiesAt, Program}
 use Rattle.listing.specs.declared.pending.Pending.{Pending}
-use Rattle.listing.specs.declared.pending.Step.{Step}
 use Rattle.listing.specs.declared.pending.Step.the-variants as step
-use Rattle.listing.specs.Steps.{row-of, proper, row-at, method-row, method-step, step-at, step-in, step-of}
-use Rattle.listing.specs.Listing.{State, Room, Answer, then, put, written, pushed, fresh, begun-from, begun, carried, going, walked, listed-whole, listed}
-use Rattle.listing.proofs.Costs.{put-longer, written-longer, Begun, begun-cheaper}
+use Rattle.listing.specs.Steps.{row-of, proper, row-at, method-row, method-step, step-at, step-of}
+use Rattle.listing.specs.Listing.{State, Room, then, put, written, pushed, fresh, begun-from, begun, carried, going, walked, listed-whole, listed}
+use Rattle.listing.proofs.Costs.{put-longer, written-longer}
 use Rattle.listing.proofs.Spines.{Spine, Entries, own-rows, body-rows, rows-split, own-written, at}
 use Rattle.listing.specs.Laws.{ListsOnly}
 use Rattle.listing.proofs.Leading.{pend, step-found, step-ended, at-end}

@@ -1,9 +1,9 @@
 -- Rows written one by one.
-use mathlib.Core.Bool.{Bool, true, false, cond}
-use mathlib.Core.List.{List, [], _∷_, _++_}
+use mathlib.Core.Bool.{true}
+use mathlib.Core.List.{List}
 use mathlib.Core.Path.{_≡_, refl, sym, ap, _∙_}
-use Prim.Native.Nat.{ℕ, zero, suc, min, _+_, _-_, _<_, _≤_}
-use native.Mathlib.Numerals.{add-one, sub-one}
+use Prim.Native.Nat.{ℕ, zero, suc, _+_, _-_, _<_, _≤_}
+use native.Mathlib.Numerals.{sub-one}
 use native.Mathlib.Omega.{arith}
 use lib.Dec.{ltb}
 use lib.ListN.{length, take, drop, set}
@@ -11,7 +11,7 @@ use borrow.Author.Tests.{lt-ltb}
 use Rattle.std.specs.declared.result.Result.{Result}
 use Rattle.std.specs.declared.result.Result.the-variants.{Ok, Err}
 use Rattle.std.proofs.shelf.Lists.{length-take, take-more-set, drop-drop, drop-set-lt, length-set}
-use Rattle.std.proofs.shelf.Tests.{cond-true, cond-false}
+use Rattle.std.proofs.shelf.Tests.{cond-true}
 use Rattle.std.specs.Vec.{made}
 use Rattle.calculus.specs.declared.code.ListEntry.{ListEntry}
 use Rattle.calculus.specs.declared.rows.Row.{Row}
@@ -19,7 +19,7 @@ use Rattle.calculus.specs.declared.refusals.Refusal.{Refusal}
 use Rattle.calculus.specs.Text.{Text}
 use Rattle.listing.specs.Steps.{row-at}
 use Rattle.listing.specs.Listing.{then, put, written}
-use Rattle.listing.specs.Areas.{row-room, told, Wrote}
+use Rattle.listing.specs.Areas.{row-room, Wrote}
 
 pub length-used : (n : ℕ) (rows : List Row) → n ≤ row-room rows → length (take n rows) ≡ n
 length-used n rows h = length-take n rows ∙ omega arith

@@ -1,17 +1,17 @@
 -- A list that stands for a term, read from its last operation, and its own rows.
-use mathlib.Core.Bool.{Bool, true, false, cond, _&&_}
+use mathlib.Core.Bool.{true, false, cond, _&&_}
 use mathlib.Core.List.{List, [], _∷_, _++_}
 use mathlib.Core.Path.{_≡_, refl, sym, ap, subst, _∙_}
-use Prim.Native.Nat.{ℕ, zero, suc, _+_, _-_, _<_, _≤_}
+use Prim.Native.Nat.{ℕ, suc, _+_, _-_, _<_, _≤_}
 use native.Mathlib.Nat.{add-zero}
 use native.Mathlib.Omega.{arith}
-use lib.Dec.{ltb, leb, eqb}
+use lib.Dec.{ltb, eqb}
 use lib.IntN.{pos}
 use lib.ListN.{length}
 use borrow.Author.Tests.{lt-ltb, le-leb, ne-eqb}
-use Rattle.std.specs.declared.option.Option.the-variants.{Some, None}
+use Rattle.std.specs.declared.option.Option.the-variants.{Some}
 use Rattle.std.specs.declared.result.Result.the-variants.{Ok, Err}
-use Rattle.std.proofs.shelf.Lists.{length-append, append-assoc, append-nil}
+use Rattle.std.proofs.shelf.Lists.{length-append, append-assoc}
 use Rattle.std.proofs.shelf.Tests.{and-from, cond-true, cond-false}
 use Rattle.calculus.specs.declared.code.Operation.{Operation}
 use Rattle.calculus.specs.declared.code.Operation.the-variants as op
@@ -22,9 +22,9 @@ use Rattle.calculus.specs.declared.values.Value.the-variants.{Figure, Location}
 use Rattle.calculus.specs.Places.{nth, if-some}
 use Rattle.calculus.specs.Terms.{Term, var, val, object, select, update, clone, bind, Methods, nil, method}
 use Rattle.calculus.specs.Rows.{many, row, rows-of, method-rows}
-use Rattle.calculus.specs.Trees.{Code, Rest, done, selectOp, updateOp, cloneOp, letOp, trans, transAll}
+use Rattle.calculus.specs.Trees.{Rest, done, selectOp, updateOp, cloneOp, letOp, trans, transAll}
 use Rattle.calculus.specs.Text.{Text}
-use Rattle.calculus.specs.Standing.{Listed, Named, CodeAt, RestAt, BodiesAt}
+use Rattle.calculus.specs.Standing.{Named, CodeAt, RestAt, BodiesAt}
 use Rattle.listing.specs.declared.pending.Pending.{Pending}
 use Rattle.listing.specs.Steps.{row-at, row-of, proper}
 use Rattle.listing.specs.Listing.{State, Room, then, put, written, pushed, fresh, begun-from, begun}

@@ -1,6 +1,6 @@
 //! Which lists are those of a program.
 ghost use mathlib.Core.Path.{_≡_};
-ghost use Prim.Native.Nat.{ℕ, _+_};
+ghost use Prim.Native.Nat.{_+_};
 ghost use lib.ListN.{drop};
 ghost use Rattle.calculus.specs.Text.{text-of};
 ghost use Rattle.listing.specs.Extent.{run, end-of, Extent};

@@ -1,7 +1,7 @@
 //! What stands in the tables.
 ghost use mathlib.Core.Path.{_≡_};
 ghost use mathlib.Core.Bool.{true};
-ghost use Prim.Native.Nat.{ℕ, _+_, _-_, _^_, _<_, _≤_};
+ghost use Prim.Native.Nat.{_+_, _-_, _^_, _<_};
 ghost use Rattle.calculus.specs.Text.{text-of};
 ghost use Rattle.listing.specs.Steps.{row-of, proper, row-at, step-at, step-in, step-of, method-step, is-method, passes};
 use crate::pending::Pending;

@@ -1,8 +1,8 @@
 //! The rows of one list.
 ghost use mathlib.Core.Path.{_≡_};
-ghost use mathlib.Core.List.{List, [], _∷_, _++_};
-ghost use Prim.Native.Nat.{ℕ, _+_, _-_, _^_, _<_, _≤_};
-ghost use lib.ListN.{length, take, drop};
+ghost use mathlib.Core.List.{_∷_};
+ghost use Prim.Native.Nat.{_-_, _<_, _≤_};
+ghost use lib.ListN.{length, take};
 ghost use Rattle.std.specs.Vec.{made};
 ghost use Rattle.calculus.specs.Held.{held, room};
 ghost use Rattle.calculus.specs.Text.{text-of};

@@ -1,7 +1,5 @@
 use borrow.Author.Needs.{needs}
-use mathlib.Core.Path.{_≡_, refl, ap, sym, _∙_}
-use Prim.Native.Nat.{_+_, _<_, _^_}
-use Rattle.calculus.specs.declared.code.Counts.{Counts}
+use mathlib.Core.Path.{sym, _∙_}
 use Rattle.compiler.specs.Compile.{moved-by}
 use Rattle.compiler.proofs.Placing.{Within, small, ready, answered, left}
 use Rattle.compiler.proofs.compile.Needs as need

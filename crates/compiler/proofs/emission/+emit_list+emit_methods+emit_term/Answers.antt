@@ -1,9 +1,9 @@
 use borrow.Author.Needs.{needs}
 use mathlib.Core.Path.{_≡_}
-use Prim.Native.Nat.{ℕ, _+_, _-_, _<_, _≤_}
+use Prim.Native.Nat.{_+_, _-_, _<_}
 use native.Mathlib.Omega.{arith}
 use lib.ListN.{length}
-use Rattle.compiler.specs.Area.{Area, area}
+use Rattle.compiler.specs.Area.{area}
 use Rattle.calculus.specs.declared.code.Operation.the-variants as op
 use Rattle.compiler.specs.Emit.{small, leaf-of, follower-of}
 use Rattle.calculus.proofs.Sizes.{row-at}

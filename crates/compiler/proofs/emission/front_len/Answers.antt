@@ -1,5 +1,4 @@
 use native.Mathlib.Omega.{arith}
-use borrow.Author.Needs.{needs}
 use Rattle.std.proofs.shelf.Ways.{tells}
 use Rattle.compiler.proofs.Steps.{front-step, front-end}
 use Rattle.compiler.proofs.emission.front_len.Needs as need

@@ -1,5 +1,5 @@
-use mathlib.Core.Path.{_≡_, refl, ap, sym, _∙_}
-use mathlib.Core.List.{List, [], _∷_, _++_, append-nil}
+use mathlib.Core.Path.{_≡_, ap, sym, _∙_}
+use mathlib.Core.List.{List, [], _++_, append-nil}
 use Rattle.calculus.specs.declared.code.Counts.{Counts}
 use Rattle.calculus.specs.Text.{Text, used, joined}
 use Rattle.compiler_tests.proofs.trying.there_and_back.Needs as need

@@ -1,16 +1,14 @@
-use mathlib.Core.Path.{_≡_, refl, ap, sym, _∙_}
-use mathlib.Core.List.{List, [], _∷_}
-use Prim.Native.Nat.{ℕ, _≤_, _<_, _+_, _*_}
+use mathlib.Core.Path.{_≡_, refl, ap, _∙_}
+use mathlib.Core.List.{List, []}
+use Prim.Native.Nat.{_+_, _*_}
 use native.Mathlib.Omega.{arith}
-use lib.ListN.{take, drop, length}
-use Rattle.std.specs.declared.result.Result.the-variants.{Ok, Err}
-use Rattle.std.specs.declared.option.Option.the-variants.{Some}
+use Rattle.std.specs.declared.result.Result.the-variants.{Ok}
 use Rattle.listing.specs.declared.pending.Pending.{Pending}
-use Rattle.calculus.specs.Held.{held, laid, room}
+use Rattle.calculus.specs.Held.{held, room}
 use Rattle.calculus.specs.Text.{text-of}
 use Rattle.listing.specs.Listing.{Room, State, begun, going, walked}
-use Rattle.listing.specs.Cost.{cost, load}
-use Rattle.listing.specs.Areas.{row-room, rooms, lent-rooms, state-of, told}
+use Rattle.listing.specs.Cost.{cost}
+use Rattle.listing.specs.Areas.{row-room, rooms, lent-rooms, state-of}
 use Rattle.listing.proofs.Rowed.{wrote-on}
 use Rattle.listing.proofs.Walking.{same-rooms, first-cost, first-lists}
 use Rattle.listing.proofs.turning.list_whole.Needs as need

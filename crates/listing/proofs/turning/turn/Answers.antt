@@ -1,15 +1,13 @@
-use mathlib.Core.Path.{_≡_, refl, ap, sym, _∙_}
+use mathlib.Core.Path.{_≡_, ap, _∙_}
 use mathlib.Core.List.{List, _∷_}
-use Prim.Native.Nat.{ℕ, _≤_, _+_}
+use Prim.Native.Nat.{ℕ}
 use native.Mathlib.Omega.{arith}
-use lib.ListN.{take, drop, length}
+use lib.ListN.{take}
 use Rattle.calculus.specs.Held.{held, room}
 use Rattle.listing.specs.declared.pending.Pending.{Pending}
-use Rattle.listing.specs.declared.pending.Step.the-variants as step
 use Rattle.calculus.specs.Text.{text-of}
-use Rattle.listing.specs.Steps.{step-of, method-row}
-use Rattle.listing.specs.Listing.{Room, begun, then, put, next-method, carried}
-use Rattle.listing.specs.Areas.{row-room, rooms, Wrote}
+use Rattle.listing.specs.Listing.{Room, begun, then, next-method, carried}
+use Rattle.listing.specs.Areas.{row-room, rooms}
 use Rattle.listing.proofs.Rowed.{wrote-made}
 use Rattle.listing.proofs.turning.turn.Needs as need
 

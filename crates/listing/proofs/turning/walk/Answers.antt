@@ -1,9 +1,7 @@
-use mathlib.Core.Path.{_≡_, ap, _∙_}
+use mathlib.Core.Path.{_≡_, ap}
 use native.Mathlib.Omega.{arith}
 use lib.ListN.{length}
-use Rattle.std.proofs.shelf.Lists.{length-reverse}
-use Rattle.calculus.specs.Held.{laid}
-use Rattle.listing.specs.Areas.{row-room, state-of}
+use Rattle.listing.specs.Areas.{row-room}
 use Rattle.listing.proofs.Walking.{ended, falls, refused, going-on}
 use Rattle.listing.proofs.turning.walk.Needs as need
 

@@ -1,11 +1,7 @@
-use mathlib.Core.Path.{_≡_}
-use Prim.Native.Nat.{ℕ, _+_, _-_, _*_, _<_, _≤_}
-use lib.ListN.{take, length}
-use Rattle.calculus.specs.Held.{held, room}
+use Prim.Native.Nat.{_-_}
 use Rattle.calculus.specs.Text.{text-of}
-use Rattle.listing.specs.Listing.{walked}
 use Rattle.listing.specs.Cost.{cost}
-use Rattle.listing.specs.Areas.{row-room, rooms, state-of, Wrote}
+use Rattle.listing.specs.Areas.{rooms, state-of}
 use Rattle.listing.proofs.Inv.{Going}
 use Rattle.listing.proofs.turning.walk.Given as given
 

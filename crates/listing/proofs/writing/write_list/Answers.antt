@@ -1,10 +1,7 @@
 use mathlib.Core.Path.{_≡_, refl, ap, sym, _∙_}
-use mathlib.Core.List.{List}
-use Prim.Native.Nat.{ℕ, _-_, _≤_}
+use Prim.Native.Nat.{_-_}
 use native.Mathlib.Omega.{arith}
-use lib.ListN.{take, drop, length}
-use Rattle.std.specs.declared.result.Result.the-variants.{Ok, Err}
-use Rattle.calculus.specs.declared.rows.Row.{Row}
+use lib.ListN.{take, length}
 use Rattle.calculus.specs.Text.{text-of}
 use Rattle.listing.specs.Listing.{written, then, put}
 use Rattle.listing.specs.Areas.{row-room}

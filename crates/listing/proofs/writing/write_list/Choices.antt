@@ -1,6 +1,6 @@
 use mathlib.Core.Path.{_≡_}
-use Prim.Native.Nat.{_-_, _<_, _≤_}
-use lib.ListN.{take, length}
+use Prim.Native.Nat.{_-_}
+use lib.ListN.{take}
 use Rattle.calculus.specs.Text.{text-of}
 use Rattle.listing.specs.Listing.{written}
 use Rattle.listing.specs.Areas.{row-room, Wrote}
