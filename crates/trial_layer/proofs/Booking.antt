@@ -1,9 +1,8 @@
 -- What one call of a store does to an open trial's book.
 use mathlib.Core.Bool.{cond}
 use mathlib.Core.List.{List, [], _∷_, _++_}
-use mathlib.Core.Logic.{_⊎_, inl, inr, ⊎-elim}
 use mathlib.Core.Path.{_≡_, refl, sym, ap, _∙_, subst}
-use Prim.Native.Nat.{ℕ, zero, suc, _+_, _<_, _≤_}
+use Prim.Native.Nat.{ℕ, zero, suc, _+_, _≤_}
 use native.Mathlib.Omega.{arith}
 use lib.Dec.{ltb}
 use lib.ListN.{length, set, drop}
@@ -27,8 +26,8 @@ use Rattle.store_laws.specs.declared.runs.StoreAnswer.{StoreAnswer}
 use Rattle.store_laws.specs.declared.runs.StoreAnswer.the-variants as answer
 use Rattle.store_laws.specs.declared.runs.StoreCall.{StoreCall}
 use Rattle.store_laws.specs.declared.runs.StoreCall.the-variants.{ObjectCount, ObjectLimit, MethodLimit, Size, MethodAt, Find, Make, Clone, Update}
-use Rattle.store_laws.specs.Runs.{told, place-told, answer-to, meaning-after, entries-at}
-use Rattle.trial_layer.specs.Laws.{Placed, AllPlaced, Noted, Booked}
+use Rattle.store_laws.specs.Runs.{told, place-told, meaning-after, entries-at}
+use Rattle.trial_layer.specs.Laws.{Placed, AllPlaced, Booked}
 use Rattle.trial_layer.specs.Runs.{new-objects, updates-by, one-if-updated}
 use Rattle.trial_layer.specs.Trials.{undo}
 use Rattle.trial_layer.proofs.Entries.{never, nth-below, nth-front, nth-set}

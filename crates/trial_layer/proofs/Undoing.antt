@@ -12,7 +12,7 @@ use Rattle.store.specs.declared.closures.Closure.{Closure}
 use Rattle.store.specs.declared.closures.Method.{Method}
 use Rattle.store.specs.declared.closures.OldMethod.{OldMethod}
 use Rattle.store.specs.Meaning.{Meaning, Object, Trial, with-objects, put-closure, with-closure, updated}
-use Rattle.trial_layer.specs.Laws.{Placed, AllPlaced}
+use Rattle.trial_layer.specs.Laws.{AllPlaced}
 use Rattle.trial_layer.specs.Trials.{with-trial, restore, undo, undone-by}
 use Rattle.trial_layer.proofs.Entries.{never, nth-below, nth-front, nth-set, set-nth}
 

@@ -17,7 +17,7 @@ use Rattle.trial_layer.specs.declared.faults.TrialFault.the-variants.{WrongTok
 use Rattle.trial_layer.specs.declared.token.Token.{Token}
 use Rattle.trial_layer.specs.Runs.{new-objects, made-in, updates-by, updates-in}
 use Rattle.trial_layer.specs.Tokens.{token}
-use Rattle.trial_layer.specs.Trials.{with-trial, open-result, opening, kept, undo, notes-of, as-put-back, put-back}
+use Rattle.trial_layer.specs.Trials.{with-trial, open-result, opening, kept, undo, put-back}
 
 -- the note lies at a place of an object
 abbrev pub Placed : List Object → OldMethod → Type 0

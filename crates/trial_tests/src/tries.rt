@@ -1,5 +1,4 @@
 //! A whole trial.
-ghost use mathlib.Core.Path.{_≡_};
 ghost use Prim.Native.Nat.{min};
 ghost use lib.ListN.{length, take};
 ghost use Rattle.trial_layer.specs.Layers.{layer-meaning};
