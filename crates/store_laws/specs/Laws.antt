@@ -17,7 +17,7 @@ use Rattle.store.specs.Meaning.{Object, Meaning, total, size-of, method-at, fin
 use Rattle.store_laws.specs.declared.runs.StoreAnswer.the-variants.{Refused}
 use Rattle.store_laws.specs.declared.runs.StoreCall.{StoreCall}
 use Rattle.store_laws.specs.declared.runs.StoreCall.the-variants.{ObjectCount, ObjectLimit, MethodLimit, Size, MethodAt, Find, Make, Clone, Update}
-use Rattle.store_laws.specs.Runs.{answer-to, meaning-after, meaning-after-all}
+use Rattle.store_laws.specs.Runs.{answer-to, meaning-after, answers-to, meaning-after-all, Alike}
 
 -- the method at a place of an object has the label
 abbrev pub Labelled : Meaning → ℕ → ℕ → ℕ → Type 0
@@ -98,3 +98,10 @@ abbrev pub Stays-until-updated : Type 0
 Stays-until-updated = (table : List MethodEntry) (m : Meaning) (l p : ℕ) (x : Method) (cs : List StoreCall) → method-at m l p ≡ Ok x → touched l p cs ≡ false →
     (method-at (meaning-after-all table m cs) l p ≡ Ok x)
     × ((c : Closure) → method-at (meaning-after-all table (updated m l p c) cs) l p ≡ Ok (with-closure x c))
+
+-- stores of equal meaning give the same answers to the same calls, and stay of equal meaning; for the answers alone, and the objects, the
+-- trials need not be equal
+abbrev pub Equal-runs : Type 0
+Equal-runs = (table : List MethodEntry) (m m′ : Meaning) (cs : List StoreCall) →
+    (m ≡ m′ → (answers-to table m cs ≡ answers-to table m′ cs) × (meaning-after-all table m cs ≡ meaning-after-all table m′ cs))
+    × (Alike m m′ → (answers-to table m cs ≡ answers-to table m′ cs) × Alike (meaning-after-all table m cs) (meaning-after-all table m′ cs))

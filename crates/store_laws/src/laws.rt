@@ -1,5 +1,5 @@
 //! The laws of a store's meaning. Each function's contract names one, and so has it proved.
-ghost use Rattle.store_laws.specs.Laws.{Finds-first, Makes-last, Copies-last, Updates-one, Clones-apart, Makes-in-room, Clones-in-room, Finds-places, Refused-in-peace, Stays-until-updated};
+ghost use Rattle.store_laws.specs.Laws.{Finds-first, Makes-last, Copies-last, Updates-one, Clones-apart, Makes-in-room, Clones-in-room, Finds-places, Refused-in-peace, Stays-until-updated, Equal-runs};
 
 /// What find, make, clone and update do, and that a clone and what it copies do not disturb each other.
 pub fn calls_hold() -> u8
@@ -22,9 +22,10 @@ pub fn refusals_hold() -> u8
     0
 }
 
-/// What lasts over a list of calls.
+/// What lasts over a list of calls, and that stores of equal meaning cannot be told apart by one.
 pub fn runs_hold() -> u8
-    ensures { λ _. ⌜ Stays-until-updated ⌝ }
+    ensures stays_until_updated { λ _. ⌜ Stays-until-updated ⌝ }
+    ensures equal_runs { λ _. ⌜ Equal-runs ⌝ }
 {
     0
 }
