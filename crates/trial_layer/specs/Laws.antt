@@ -41,6 +41,10 @@ pub record Booked (table : List MethodEntry) (m : Meaning) (n : ℕ) (notes : Li
   -- an update that finds the book full leaves it overrun
   pub overruns : book-room < length notes + updates-by table m c → meaning-after table m c .trial ≡ overrun n
 
+-- every call of a store, in an open trial whose notes lie at places and are no more than a book counts
+abbrev pub BookedOneByOne : Type 0
+BookedOneByOne = (table : List MethodEntry) (m : Meaning) (n : ℕ) (notes : List OldMethod) → m .trial ≡ opened n notes → AllPlaced (m .objects) notes → length notes ≤ book-room → (c : StoreCall) → Booked table m n notes c
+
 -- the book of an open trial
 pub record InOrder (m : Meaning) (n : ℕ) (notes : List OldMethod) : Type 0 where
   pub placed : AllPlaced (m .objects) notes
