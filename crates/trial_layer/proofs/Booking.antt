@@ -1,9 +1,8 @@
 -- What one call of a store does to an open trial's book.
 use mathlib.Core.Bool.{cond}
 use mathlib.Core.List.{List, [], _∷_, _++_}
-use mathlib.Core.Logic.{_⊎_, inl, inr, ⊎-elim}
 use mathlib.Core.Path.{_≡_, refl, sym, ap, _∙_, subst}
-use Prim.Native.Nat.{ℕ, zero, suc, _+_, _<_, _≤_}
+use Prim.Native.Nat.{ℕ, zero, suc, _+_, _≤_}
 use native.Mathlib.Omega.{arith}
 use lib.Dec.{ltb}
 use lib.ListN.{length, set, drop}
@@ -22,21 +21,22 @@ use Rattle.store.specs.declared.closures.OldMethod.{OldMethod}
 use Rattle.store.specs.declared.faults.StoreFault.{StoreFault}
 use Rattle.store.specs.declared.faults.StoreFault.the-variants.{NoLocation, NoPlace}
 use Rattle.store.specs.Meaning.{Meaning, Object, opened, overrun, added, room-for, size-of, method-at, find-in, make-result, methods-of, clone-result, updated, update-result, with-closure, noted}
+use Rattle.store.proofs.Nth.{nth-some, nth-set, nth-append}
 use Rattle.store.proofs.Ways.{not-located, not-placed, placed, no-update-there, no-update-here, updates}
 use Rattle.store_laws.specs.declared.runs.StoreAnswer.{StoreAnswer}
 use Rattle.store_laws.specs.declared.runs.StoreAnswer.the-variants as answer
 use Rattle.store_laws.specs.declared.runs.StoreCall.{StoreCall}
 use Rattle.store_laws.specs.declared.runs.StoreCall.the-variants.{ObjectCount, ObjectLimit, MethodLimit, Size, MethodAt, Find, Make, Clone, Update}
-use Rattle.store_laws.specs.Runs.{told, place-told, answer-to, meaning-after, entries-at}
-use Rattle.trial_layer.specs.Laws.{Placed, AllPlaced, Noted, Booked}
+use Rattle.store_laws.specs.Runs.{told, place-told, meaning-after, entries-at}
+use Rattle.trial_layer.specs.Laws.{Placed, AllPlaced, Booked}
 use Rattle.trial_layer.specs.Runs.{new-objects, updates-by, one-if-updated}
 use Rattle.trial_layer.specs.Trials.{undo}
-use Rattle.trial_layer.proofs.Entries.{never, nth-below, nth-front, nth-set}
+use Rattle.trial_layer.proofs.Entries.{never}
 use Rattle.trial_layer.proofs.Undoing.{undo-front, undo-put}
 
 pub placed-front : (os new : List Object) (notes : List OldMethod) → AllPlaced os notes → AllPlaced (os ++ new) notes
 placed-front os new [] h = tt
-placed-front os new (n ∷ notes) h = ((h .0 .0, h .0 .1 ∙ sym (nth-front os new (n .location) (nth-below os (n .location) (h .0 .0) (h .0 .1))), h .0 .2), placed-front os new notes (h .1))
+placed-front os new (n ∷ notes) h = ((h .0 .0, h .0 .1 ∙ sym (nth-append os new (n .location) (nth-some os (n .location) (h .0 .0) (sym (h .0 .1)))), h .0 .2), placed-front os new notes (h .1))
 
 -- an object in place of another of its size
 module _ (o q : Object) (same : length q ≡ length o) where
@@ -114,7 +114,7 @@ module _ (table : List MethodEntry) (m : Meaning) (n : ℕ) (notes : List OldMet
             notes ++ old ∷ [],
             record {
               trial-is = trial-is ∙ cond-true _ _ _ (lt-ltb (length notes) 256 (omega (arith, one)));
-              places = subst (λ os. AllPlaced os (notes ++ old ∷ [])) (sym objects-are) (placed-push (set (m .objects) l q) notes old (placed-set o q same (m .objects) l h notes in-place) (q, nth-set (m .objects) l o q h, omega (arith, same, nth-below o p x k)));
+              places = subst (λ os. AllPlaced os (notes ++ old ∷ [])) (sym objects-are) (placed-push (set (m .objects) l q) notes old (placed-set o q same (m .objects) l h notes in-place) (q, sym (nth-set (m .objects) l o q (sym h)), omega (arith, same, nth-some o p x (sym k))));
               counts = length-push notes old ∙ ap (λ i. length notes + i) (sym one);
               leaves = ap (undo (notes ++ old ∷ [])) objects-are ∙ undo-put (m .objects) l p c o x h k notes ∙ sym (ap (λ new. undo notes (m .objects) ++ new) no-more ∙ append-nil (undo notes (m .objects)));
             },

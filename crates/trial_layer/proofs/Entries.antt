@@ -1,9 +1,9 @@
 -- Entries of a list by their places.
-use mathlib.Core.List.{List, [], _∷_, _++_}
-use mathlib.Core.Path.{_≡_, refl, sym, ap, _∙_}
+use mathlib.Core.List.{List, [], _∷_}
+use mathlib.Core.Path.{_≡_, refl, ap}
 use Prim.Native.Nat.{ℕ, zero, suc, _<_}
 use native.Mathlib.Omega.{arith}
-use lib.ListN.{length, take, set}
+use lib.ListN.{take, set}
 use Rattle.std.specs.declared.option.Option.the-variants.{Some, None}
 use Rattle.calculus.specs.Places.{nth}
 
@@ -16,21 +16,6 @@ module _ {X : Type 0} where
 
   pub never : {A : Type 0} {x : X} → Some x ≡ None → A
   never h = let z : _≡_ {A = ℕ} 0 1 = cc in absurd (omega arith)
-
-  pub nth-below : (xs : List X) (i : ℕ) (x : X) → Some x ≡ nth xs i → i < length xs
-  nth-below [] i x h = never h
-  nth-below (y ∷ xs) zero x h = omega arith
-  nth-below (y ∷ xs) (suc i) x h = let r = nth-below xs i x h in omega arith
-
-  pub nth-front : (xs ys : List X) (i : ℕ) → i < length xs → nth (xs ++ ys) i ≡ nth xs i
-  nth-front [] ys i h = absurd (omega arith)
-  nth-front (x ∷ xs) ys zero h = refl
-  nth-front (x ∷ xs) ys (suc i) h = nth-front xs ys i (omega arith)
-
-  pub nth-set : (xs : List X) (i : ℕ) (x y : X) → Some x ≡ nth xs i → Some y ≡ nth (set xs i y) i
-  nth-set [] i x y h = never h
-  nth-set (z ∷ xs) zero x y h = refl
-  nth-set (z ∷ xs) (suc i) x y h = nth-set xs i x y h
 
   pub set-nth : (xs : List X) (i : ℕ) (x : X) → Some x ≡ nth xs i → set xs i x ≡ xs
   set-nth [] i x h = refl

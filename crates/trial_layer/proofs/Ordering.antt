@@ -17,7 +17,7 @@ use Rattle.store.specs.Meaning.{Meaning, Trial, no-trial, closed, opened, overr
 use Rattle.store_laws.specs.declared.runs.StoreCall.{StoreCall}
 use Rattle.store_laws.specs.Runs.{meaning-after}
 use Rattle.trial_layer.specs.declared.faults.TrialFault.{TrialFault}
-use Rattle.trial_layer.specs.Laws.{AllPlaced, InOrder, LayerCall, of-store, open-trial, keep-trial, put-back-trial, layer-after, layer-after-all, BooksInOrder}
+use Rattle.trial_layer.specs.Laws.{AllPlaced, LayerCall, of-store, open-trial, keep-trial, put-back-trial, layer-after, layer-after-all, BooksInOrder}
 use Rattle.trial_layer.specs.Runs.{updates-by}
 use Rattle.trial_layer.specs.Trials.{with-trial, trial-opened, is-open, back-fault, undone}
 use Rattle.trial_layer.proofs.Booking.{booked}

@@ -1,11 +1,11 @@
 -- A trial's book over runs of calls.
 use mathlib.Core.Bool.{Bool, true, false, cond}
 use mathlib.Core.List.{List, [], _∷_, _++_}
-use mathlib.Core.Logic.{_⊎_, inl, inr, ⊎-elim}
-use mathlib.Core.Path.{_≡_, refl, sym, ap, _∙_, subst}
+use mathlib.Core.Logic.{⊎-elim}
+use mathlib.Core.Path.{_≡_, refl, sym, ap, _∙_}
 use Prim.Native.Nat.{ℕ, _+_, _<_, _≤_}
 use native.Mathlib.Omega.{arith}
-use lib.Dec.{ltb, eqb}
+use lib.Dec.{ltb}
 use lib.ListN.{length}
 use borrow.Author.Tests.{eq-eqb, ne-eqb}
 use Rattle.std.proofs.shelf.Lists.{append-nil, append-assoc}
@@ -17,14 +17,14 @@ use Rattle.std.specs.declared.result.Result.the-variants.{Ok, Err}
 use Rattle.calculus.specs.Places.{if-some}
 use Rattle.calculus.specs.declared.code.MethodEntry.{MethodEntry}
 use Rattle.store.specs.declared.closures.OldMethod.{OldMethod}
-use Rattle.store.specs.Meaning.{Meaning, Object, Trial, no-trial, closed, opened, overrun, old-at, noted}
+use Rattle.store.specs.Meaning.{Meaning, Trial, no-trial, closed, opened, overrun, old-at, noted}
 use Rattle.store_laws.specs.declared.runs.StoreCall.{StoreCall}
 use Rattle.store_laws.specs.declared.runs.StoreCall.the-variants.{ObjectCount, ObjectLimit, MethodLimit, Size, MethodAt, Find, Make, Clone, Update}
 use Rattle.store_laws.specs.Runs.{meaning-after, meaning-after-all}
 use Rattle.trial_layer.specs.declared.faults.TrialFault.{TrialFault}
 use Rattle.trial_layer.specs.declared.faults.TrialFault.the-variants.{WrongToken, NoNumber, Overrun}
 use Rattle.trial_layer.specs.declared.token.Token.{Token}
-use Rattle.trial_layer.specs.Laws.{AllPlaced, Noted, Booked, InOrder, Back}
+use Rattle.trial_layer.specs.Laws.{AllPlaced, Back}
 use Rattle.trial_layer.specs.Runs.{new-objects, made-in, updates-by, updates-in}
 use Rattle.trial_layer.specs.Tokens.{token}
 use Rattle.trial_layer.specs.Trials.{trial-opened, open-result, opening, undo, notes-of, back-fault, back-result, put-back, undone}

@@ -12,9 +12,10 @@ use Rattle.store.specs.declared.closures.Closure.{Closure}
 use Rattle.store.specs.declared.closures.Method.{Method}
 use Rattle.store.specs.declared.closures.OldMethod.{OldMethod}
 use Rattle.store.specs.Meaning.{Meaning, Object, Trial, with-objects, put-closure, with-closure, updated}
-use Rattle.trial_layer.specs.Laws.{Placed, AllPlaced}
+use Rattle.store.proofs.Nth.{nth-some, nth-set, nth-append}
+use Rattle.trial_layer.specs.Laws.{AllPlaced}
 use Rattle.trial_layer.specs.Trials.{with-trial, restore, undo, undone-by}
-use Rattle.trial_layer.proofs.Entries.{never, nth-below, nth-front, nth-set, set-nth}
+use Rattle.trial_layer.proofs.Entries.{never, set-nth}
 
 undo-newest : (k : ℕ) (notes : List OldMethod) (old : OldMethod) (os : List Object) → Some old ≡ nth notes k → undo (take (suc k) notes) os ≡ undo (take k notes) (restore old os)
 undo-newest k [] old os h = never h
@@ -51,7 +52,7 @@ length-put os l p c = by (nth os l)
     by (Some o) = inside o (nth o p)
 
 put-front : (os new : List Object) (l p : ℕ) (c : Closure) → l < length os → put-closure (os ++ new) l p c ≡ put-closure os l p c ++ new
-put-front os new l p c h = ap (put-object (os ++ new) l p c) (nth-front os new l h) ∙ by (nth os l)
+put-front os new l p c h = ap (put-object (os ++ new) l p c) (nth-append os new l h) ∙ by (nth os l)
   where
     inside : (o : Object) (y : Option Method) → put-method (os ++ new) l p c o y ≡ put-method os l p c o y ++ new
     inside o None = refl
@@ -69,7 +70,7 @@ length-undo (n ∷ notes) os = length-put (undo notes os) (n .location) (n .plac
 pub undo-front : (notes : List OldMethod) (os new : List Object) → AllPlaced os notes → undo notes (os ++ new) ≡ undo notes os ++ new
 undo-front [] os new h = refl
 undo-front (n ∷ notes) os new h =
-    let b : n .location < length (undo notes os) = omega (arith, length-undo notes os, nth-below os (n .location) (h .0 .0) (h .0 .1)) in
+    let b : n .location < length (undo notes os) = omega (arith, length-undo notes os, nth-some os (n .location) (h .0 .0) (sym (h .0 .1))) in
     ap (restore n) (undo-front notes os new (h .1)) ∙ put-front (undo notes os) new (n .location) (n .place) (n .closure) b
 
 -- an update, where there is a method x of an object o
@@ -82,8 +83,8 @@ module _ (os : List Object) (l p : ℕ) (c : Closure) (o : Object) (x : Method) 
 
   pub restore-put : restore old changed ≡ os
   restore-put =
-      ap (put-object changed l p (x .closure)) (sym (nth-set os l o _ h))
-      ∙ ap (put-method changed l p (x .closure) (set o p (with-closure x c))) (sym (nth-set o p x _ k))
+      ap (put-object changed l p (x .closure)) (nth-set os l o _ (sym h))
+      ∙ ap (put-method changed l p (x .closure) (set o p (with-closure x c))) (nth-set o p x _ (sym k))
       ∙ set-set os l (set o p (with-closure x c)) _
       ∙ ap (set os l) (set-set o p (with-closure x c) x ∙ set-nth o p x k)
       ∙ set-nth os l o h

@@ -17,7 +17,7 @@ use Rattle.trial_layer.specs.declared.faults.TrialFault.the-variants.{WrongTok
 use Rattle.trial_layer.specs.declared.token.Token.{Token}
 use Rattle.trial_layer.specs.Runs.{new-objects, made-in, updates-by, updates-in}
 use Rattle.trial_layer.specs.Tokens.{token}
-use Rattle.trial_layer.specs.Trials.{with-trial, open-result, opening, kept, undo, notes-of, as-put-back, put-back}
+use Rattle.trial_layer.specs.Trials.{with-trial, open-result, opening, kept, undo, put-back}
 
 -- the note lies at a place of an object
 abbrev pub Placed : List Object → OldMethod → Type 0
@@ -40,6 +40,10 @@ pub record Booked (table : List MethodEntry) (m : Meaning) (n : ℕ) (notes : Li
   pub notes-it : length notes + updates-by table m c ≤ book-room → (those : List OldMethod) × Noted table m n notes c those
   -- an update that finds the book full leaves it overrun
   pub overruns : book-room < length notes + updates-by table m c → meaning-after table m c .trial ≡ overrun n
+
+-- every call of a store, in an open trial whose notes lie at places and are no more than a book counts
+abbrev pub BookedOneByOne : Type 0
+BookedOneByOne = (table : List MethodEntry) (m : Meaning) (n : ℕ) (notes : List OldMethod) → m .trial ≡ opened n notes → AllPlaced (m .objects) notes → length notes ≤ book-room → (c : StoreCall) → Booked table m n notes c
 
 -- the book of an open trial
 pub record InOrder (m : Meaning) (n : ℕ) (notes : List OldMethod) : Type 0 where

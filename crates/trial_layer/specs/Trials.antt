@@ -1,5 +1,5 @@
 -- What a layer's trial is by its book, and what open, keep and put back answer and leave.
-use mathlib.Core.Bool.{Bool, true, false, cond}
+use mathlib.Core.Bool.{Bool, false, cond}
 use mathlib.Core.List.{List, [], _∷_}
 use Prim.Native.Nat.{ℕ, _+_}
 use lib.Dec.{ltb, eqb}
@@ -86,10 +86,6 @@ notes-of no-trial = []
 notes-of (closed n) = []
 notes-of (opened n notes) = notes
 notes-of (overrun n) = []
-
--- the objects as put back would leave them, while the book is not overrun
-abbrev pub as-put-back : Meaning → List Object
-as-put-back m = undo (notes-of (m .trial)) (m .objects)
 
 -- why the trial with the number k cannot be put back
 abbrev pub back-fault : Trial → ℕ → Option TrialFault

@@ -1,5 +1,4 @@
 //! The trial layer as a store.
-ghost use mathlib.Core.Path.{_≡_};
 ghost use Rattle.trial_layer.specs.Layers.{layer-meaning};
 use crate::layer::TrialLayer;
 use calculus::code::MethodEntry;

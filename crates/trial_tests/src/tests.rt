@@ -1,4 +1,5 @@
 //! What comes of trials.
+use crate::tries::try_calls;
 use calculus::code::MethodEntry;
 use flat_store::calls::FlatKind;
 use flat_store::table::FlatStore;
@@ -65,9 +66,9 @@ fn lists<S: Store>(store: &S) -> Lists {
     ]
 }
 
-/// What comes of some calls on trial: 0 or the number of the fault by which put back was refused, and the lists before, during
-/// and after the trial.
-type Outcome = (u32, [Lists; 3]);
+/// What comes of some calls on trial: 0 or the number of the fault by which put back was refused, the same of a second time, and
+/// the lists before, during and after the first.
+type Outcome = (u32, u32, [Lists; 3]);
 
 // A layer with one object, then the calls on trial, put back or, if that is refused, kept.
 fn tried<S: Store + Drop>(below: S, calls: &[StoreCall]) -> Result<Outcome, TrialFault> {
@@ -85,7 +86,12 @@ fn tried<S: Store + Drop>(below: S, calls: &[StoreCall]) -> Result<Outcome, Tria
             fault.number()
         }
     };
-    Ok((fault, [before, during, lists(&layer)]))
+    let after = lists(&layer);
+    let again = match try_calls(&mut layer, &ENTRIES, calls, &mut answers) {
+        Ok(()) => 0,
+        Err(fault) => fault.number(),
+    };
+    Ok((fault, again, [before, during, after]))
 }
 
 fn tried_on_layer<S: Store + Drop>(below: S, calls: &[StoreCall]) -> Result<Outcome, TrialFault> {
@@ -144,13 +150,13 @@ fn put_back() -> Result<(), Fail> {
     for below in EVERY {
         check_eq(
             tried_on(below, &same_place[0..256])?,
-            (0, [start, updated, start]),
+            (0, 0, [start, updated, start]),
         )?;
         check_eq(
             tried_on(below, &same_place)?,
-            (30, [start, updated, updated]),
+            (30, 30, [start, updated, updated]),
         )?;
-        check_eq(tried_on(below, &mixed)?, (0, [start, changed, newer]))?;
+        check_eq(tried_on(below, &mixed)?, (0, 0, [start, changed, newer]))?;
     }
     Ok(())
 }

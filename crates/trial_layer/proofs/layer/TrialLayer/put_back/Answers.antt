@@ -2,7 +2,6 @@ use borrow.Author.Needs.{needs}
 use mathlib.Core.Path.{_≡_}
 use Rattle.std.specs.declared.result.Result.the-variants.{Ok, Err}
 use Rattle.store.specs.Meaning.{Meaning}
-use Rattle.trial_layer.specs.declared.layer.TrialLayer.{TrialLayer}
 use Rattle.trial_layer.specs.Layers.{layer-meaning}
 use Rattle.trial_layer.specs.Trials.{back-result, put-back}
 use Rattle.trial_layer.proofs.Running.{back}
