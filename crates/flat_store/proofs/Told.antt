@@ -1,18 +1,17 @@
 -- What a flat store's entries say of its meaning.
 use mathlib.Core.Bool.{true}
-use mathlib.Core.List.{List, [], _∷_, _++_, map}
+use mathlib.Core.List.{List, [], _∷_, _++_}
 use mathlib.Core.Logic.{_⊎_, inl, inr, ⊎-elim, _≢_}
-use mathlib.Core.Path.{_≡_, refl, sym, ap, _∙_}
+use mathlib.Core.Path.{_≡_, refl, ap, _∙_}
 use Prim.Native.Nat.{ℕ, _+_, _<_, _≤_}
 use native.Mathlib.Omega.{arith}
-use lib.ListN.{length, getD, take, set, length-set}
+use lib.ListN.{length, getD, set, length-set}
 use lib.Seq.{paste, getD-set-same, getD-set-other}
 use Rattle.std.proofs.shelf.Edits.{paste-none}
 use Rattle.std.proofs.shelf.Tests.{cases-order}
 use Rattle.store.specs.declared.closures.Method.{Method}
 use Rattle.store.specs.declared.layout.Span.{Span}
-use Rattle.store.specs.Layout.{part, laid, objects-in}
-use Rattle.store.specs.Meaning.{Object}
+use Rattle.store.specs.Layout.{part, objects-in}
 use Rattle.store.proofs.Spans.{no-span}
 use Rattle.store.proofs.Writes.{cut-before, cut-new}
 use Rattle.store.proofs.Tells.{Tells}

@@ -2,10 +2,10 @@
 use mathlib.Core.Bool.{true}
 use mathlib.Core.List.{List, []}
 use mathlib.Core.Logic.{_⊎_, inl, inr, ⊎-elim, _≢_}
-use mathlib.Core.Path.{_≡_, refl, sym, ap, subst, _∙_}
+use mathlib.Core.Path.{_≡_, sym, ap, subst, _∙_}
 use Prim.Native.Nat.{ℕ, _+_, _<_, _≤_}
 use native.Mathlib.Omega.{arith}
-use lib.ListN.{length, getD, take, drop, set, length-set}
+use lib.ListN.{length, set, length-set}
 use lib.Seq.{paste, getD-set-same, getD-set-other}
 use Rattle.std.proofs.shelf.Tests.{cases-eq}
 use Rattle.store.specs.declared.closures.Method.{Method}
@@ -14,7 +14,7 @@ use Rattle.store.proofs.Objects.{same-map}
 use Rattle.store.proofs.Spans.{no-span, length-part}
 use Rattle.store.proofs.Writes.{cut-before, cut-after, cut-new}
 use Rattle.sharing_store.specs.declared.entries.SharedEntry.{SharedEntry}
-use Rattle.sharing_store.specs.Views.{no-entry, entry-at, own-span, held-span, laid-out, View, view, Filled, Linked, Sound}
+use Rattle.sharing_store.specs.Views.{no-entry, entry-at, own-span, held-span, laid-out, View, view, Filled, Sound}
 use Rattle.sharing_store.specs.States.{with-held}
 use Rattle.sharing_store.proofs.Spaces.{space-in, in-order, held-in-use, lie-apart}
 use Rattle.sharing_store.proofs.Steps.{refilled, refill}

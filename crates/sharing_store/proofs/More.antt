@@ -1,16 +1,15 @@
 -- One object more.
-use mathlib.Core.Bool.{true}
-use mathlib.Core.List.{List, [], _∷_, _++_, map}
-use mathlib.Core.Logic.{_⊎_, inl, inr, ⊎-elim, _≢_}
+use mathlib.Core.List.{List}
+use mathlib.Core.Logic.{inl, inr, ⊎-elim, _≢_}
 use mathlib.Core.Path.{_≡_, refl, sym, ap, subst, _∙_}
-use Prim.Native.Nat.{ℕ, _+_, _<_, _≤_}
+use Prim.Native.Nat.{ℕ, _+_, _<_}
 use native.Mathlib.Omega.{arith}
-use lib.ListN.{length, getD, take, drop, set, length-set}
+use lib.ListN.{length, set, length-set}
 use lib.Seq.{getD-set-same, getD-set-other}
 use Rattle.std.proofs.shelf.Tests.{cases-eq}
 use Rattle.sharing_store.specs.declared.entries.SharedEntry.{SharedEntry}
 use Rattle.sharing_store.specs.declared.table.SharingStore.{SharingStore}
-use Rattle.sharing_store.specs.Views.{no-entry, entry-at, View, view, Filled, Linked, Sound}
+use Rattle.sharing_store.specs.Views.{no-entry, entry-at, View, view, Filled, Sound}
 use Rattle.sharing_store.specs.States.{entry, shown, Root-of}
 use Rattle.sharing_store.proofs.Steps.{Agrees, push, past}
 use Rattle.sharing_store.proofs.Walks.{with-last, sd-of}

@@ -9,7 +9,7 @@ use lib.ListN.{length}
 use Rattle.std.proofs.shelf.Tests.{cases-order, cases-eq}
 use Rattle.store.proofs.Objects.{own-in, own-order}
 use Rattle.sharing_store.specs.declared.entries.SharedEntry.{SharedEntry}
-use Rattle.sharing_store.specs.Views.{no-entry, entry-at, own-span, laid-out, view, Filled, Linked, Sound}
+use Rattle.sharing_store.specs.Views.{no-entry, entry-at, own-span, laid-out, view, Filled, Sound}
 
 module _ (es : List SharedEntry) (n : ℕ) (fits : n ≤ length es) (end : ℕ) (ok : laid-out es n end ≡ true) where
   pub space-in : (k : ℕ) → k < n → entry-at es k .first + entry-at es k .size ≤ end

@@ -3,9 +3,9 @@ use mathlib.Core.Bool.{true}
 use mathlib.Core.List.{List, []}
 use mathlib.Core.Logic.{_⊎_, inl, inr, ⊎-elim, _≢_}
 use mathlib.Core.Path.{_≡_, refl, sym, ap, subst, _∙_}
-use Prim.Native.Nat.{ℕ, _+_, _<_, _≤_}
+use Prim.Native.Nat.{ℕ, _<_, _≤_}
 use native.Mathlib.Omega.{arith}
-use lib.ListN.{length, getD, take, drop, set, length-set}
+use lib.ListN.{length, set, length-set}
 use lib.Seq.{getD-set-same, getD-set-other, set-getD}
 use Rattle.std.proofs.shelf.Edits.{paste-none}
 use Rattle.std.proofs.shelf.Tests.{cases-eq, cases-order}
@@ -15,7 +15,7 @@ use Rattle.store.proofs.Objects.{same-map}
 use Rattle.store.proofs.Spans.{no-span}
 use Rattle.sharing_store.specs.declared.entries.SharedEntry.{SharedEntry}
 use Rattle.sharing_store.specs.declared.table.SharingStore.{SharingStore}
-use Rattle.sharing_store.specs.Views.{no-entry, entry-at, own-span, held-span, laid-out, View, view, Filled, Linked, Sound}
+use Rattle.sharing_store.specs.Views.{no-entry, entry-at, own-span, held-span, laid-out, View, view, Filled, Sound}
 use Rattle.sharing_store.specs.States.{entry, shown, with-held, Same-counts, Only-fills, Fills, Walked, Written}
 use Rattle.sharing_store.proofs.Steps.{relisted, unlist}
 use Rattle.sharing_store.proofs.Sounds.{sound-tells}

@@ -16,7 +16,7 @@ use Rattle.store.specs.declared.faults.StoreFault.{StoreFault}
 use Rattle.store.specs.declared.faults.StoreFault.the-variants.{ObjectsFull, MethodsFull, NoLocation, NoPlace}
 use Rattle.store.specs.declared.layout.Span.{Span}
 use Rattle.store.specs.Layout.{part}
-use Rattle.store.specs.Meaning.{Object, Meaning, no-trial, total, size-of, method-at, find-in, place-from, room-for, added, with-objects, methods-of, make-result, made-by, clone-result, cloned-by, with-closure, noted, update-result, updated}
+use Rattle.store.specs.Meaning.{Meaning, no-trial, total, size-of, method-at, find-in, place-from, room-for, added, with-objects, methods-of, make-result, made-by, clone-result, cloned-by, with-closure, noted, update-result, updated}
 use Rattle.store.proofs.Spans.{no-method, length-part, method-there, no-method-there}
 use Rattle.store.proofs.Ways.{located, not-located, placed, not-placed, has-room, no-objects, no-methods, made, unmade, no-update-there, no-update-here, updates}
 

@@ -2,7 +2,7 @@
 use mathlib.Core.Bool.{Bool, true, false, cond}
 use mathlib.Core.List.{List, [], _∷_, _++_, map, append-nil, append-assoc}
 use mathlib.Core.Path.{_≡_, refl, sym, ap, subst, _∙_}
-use Prim.Native.Nat.{ℕ, zero, suc, _+_, _<_, _≤_}
+use Prim.Native.Nat.{ℕ, zero, suc, _+_}
 use native.Mathlib.Omega.{arith}
 use lib.Dec.{ltb, leb}
 use lib.ListN.{length, set}
@@ -18,8 +18,7 @@ use Rattle.store.specs.declared.closures.Closure.{Closure}
 use Rattle.store.specs.declared.closures.Method.{Method}
 use Rattle.store.specs.declared.closures.OldMethod.{OldMethod}
 use Rattle.store.specs.declared.faults.StoreFault.the-variants.{ObjectsFull, MethodsFull}
-use Rattle.store.specs.Meaning.{Object, Meaning, Trial, no-trial, total, room-for, added, with-objects, with-trial, method-of, methods-of, made-by, cloned-by, with-closure, put-closure, old-at, noted, updated}
-use Rattle.store_laws.specs.declared.runs.StoreAnswer.{StoreAnswer}
+use Rattle.store.specs.Meaning.{Object, Meaning, Trial, no-trial, total, room-for, added, with-objects, with-trial, method-of, methods-of, with-closure, put-closure, old-at, noted, updated}
 use Rattle.store_laws.specs.declared.runs.StoreCall.{StoreCall}
 use Rattle.store_laws.specs.declared.runs.StoreCall.the-variants.{ObjectCount, ObjectLimit, MethodLimit, Size, MethodAt, Find, Make, Clone, Update}
 use Rattle.store_laws.specs.Runs.{entries-at, answer-to, meaning-after, answers-to, meaning-after-all, labels, Lasts, Alike}

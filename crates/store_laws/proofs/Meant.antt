@@ -1,27 +1,25 @@
 -- The laws of a store's meaning.
-use mathlib.Core.Bool.{Bool, true, false, cond, _&&_, _||_}
+use mathlib.Core.Bool.{Bool, true, false, cond}
 use mathlib.Core.List.{List, [], _∷_, _++_}
-use mathlib.Core.Logic.{_⊎_, inl, inr, ⊎-elim, _≢_}
+use mathlib.Core.Logic.{⊎-elim, _≢_}
 use mathlib.Core.Path.{_≡_, refl, sym, ap, subst, _∙_}
-use Prim.Native.Nat.{ℕ, zero, suc, _+_, _<_, _≤_}
+use Prim.Native.Nat.{ℕ, zero, suc, _+_, _<_}
 use native.Mathlib.Omega.{arith}
 use lib.Dec.{ltb, leb, eqb}
 use lib.ListN.{length, set, length-set}
-use Rattle.std.proofs.shelf.Tests.{cases-eq, cases-bool, and-from, eqb-true, eqb-false, eq-eqb, and-cases}
-use Rattle.std.proofs.shelf.Ways.{tells}
+use Rattle.std.proofs.shelf.Tests.{cases-eq, eqb-true, eqb-false}
 use Rattle.std.specs.declared.option.Option.{Option}
 use Rattle.std.specs.declared.option.Option.the-variants.{Some, None}
 use Rattle.std.specs.declared.result.Result.{Result}
 use Rattle.std.specs.declared.result.Result.the-variants.{Ok, Err}
 use Rattle.calculus.specs.Places.{nth, if-some}
-use Rattle.calculus.specs.declared.code.MethodEntry.{MethodEntry}
 use Rattle.store.specs.declared.closures.Closure.{Closure}
 use Rattle.store.specs.declared.closures.Method.{Method}
 use Rattle.store.specs.declared.faults.StoreFault.{StoreFault}
 use Rattle.store.specs.declared.faults.StoreFault.the-variants.{ObjectsFull, MethodsFull, NoLocation, NoPlace}
-use Rattle.store.specs.Meaning.{Object, Meaning, total, place-from, at-location, at-place, size-of, method-at, find-in, room-for, added, make-result, made-by, methods-of, clone-result, cloned-by, with-closure, put-closure, update-result, updated}
-use Rattle.store.proofs.Nth.{some-none, nth-some, nth-none, nth-set, nth-set-other, nth-append, nth-push}
-use Rattle.store_laws.specs.Laws.{Labelled, Finds-first, Makes-last, Copies-last, Updates-one, Clones-apart, Makes-in-room, Clones-in-room, Finds-places, Refused-in-peace, Stays-until-updated}
+use Rattle.store.specs.Meaning.{Object, Meaning, total, place-from, size-of, room-for, added, methods-of, cloned-by, with-closure, put-closure, updated}
+use Rattle.store.proofs.Nth.{some-none, nth-some, nth-set, nth-set-other, nth-append, nth-push}
+use Rattle.store_laws.specs.Laws.{Labelled, Finds-first, Makes-last, Copies-last, Updates-one, Clones-apart}
 
 pub ok-err : {A : Type 0} (x : A) (e : StoreFault) → _≡_ {A = Result A StoreFault} (Ok x) (Err e) → ⊥
 ok-err x e h = let z : _≡_ {A = ℕ} 0 1 = cc in absurd (omega arith)

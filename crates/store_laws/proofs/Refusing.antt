@@ -1,11 +1,10 @@
 -- What is refused, and what lasts over a list of calls.
-use mathlib.Core.Bool.{Bool, true, false, cond, _&&_, _||_}
+use mathlib.Core.Bool.{false}
 use mathlib.Core.List.{List, [], _∷_, _++_}
-use mathlib.Core.Logic.{_⊎_, inl, inr, ⊎-elim, _≢_}
-use mathlib.Core.Path.{_≡_, refl, sym, ap, subst, _∙_}
-use Prim.Native.Nat.{ℕ, zero, suc, _+_, _<_, _≤_}
+use mathlib.Core.Path.{_≡_, refl, sym, ap, _∙_}
+use Prim.Native.Nat.{ℕ, _+_, _<_, _≤_}
 use native.Mathlib.Omega.{arith}
-use lib.Dec.{ltb, leb, eqb}
+use lib.Dec.{eqb}
 use lib.ListN.{length}
 use Rattle.std.proofs.shelf.Tests.{and-from, eq-eqb, false≢true, or-parts}
 use Rattle.std.proofs.shelf.Ways.{tells}
@@ -20,10 +19,9 @@ use Rattle.store.specs.declared.closures.Closure.{Closure}
 use Rattle.store.specs.declared.closures.Method.{Method}
 use Rattle.store.specs.declared.faults.StoreFault.{StoreFault}
 use Rattle.store.specs.declared.faults.StoreFault.the-variants.{ObjectsFull, MethodsFull, NoLocation, NoPlace}
-use Rattle.store.specs.Meaning.{Object, Meaning, total, size-of, method-at, find-in, room-for, added, with-objects, make-result, made-by, methods-of, clone-result, cloned-by, with-closure, update-result, updated}
+use Rattle.store.specs.Meaning.{Object, Meaning, total, method-at, room-for, added, with-objects, make-result, methods-of, clone-result, with-closure, updated}
 use Rattle.store.proofs.Nth.{nth-some, nth-none, nth-append}
 use Rattle.store.proofs.Ways.{not-located, placed, not-placed, no-update-there, no-update-here}
-use Rattle.store_laws.specs.declared.runs.StoreAnswer.{StoreAnswer}
 use Rattle.store_laws.specs.declared.runs.StoreAnswer.the-variants as answer
 use Rattle.store_laws.specs.declared.runs.StoreCall.{StoreCall}
 use Rattle.store_laws.specs.declared.runs.StoreCall.the-variants.{ObjectCount, ObjectLimit, MethodLimit, Size, MethodAt, Find, Make, Clone, Update}

@@ -1,11 +1,11 @@
 -- Lists of calls, one call on.
 use mathlib.Core.List.{List, [], _∷_, _++_}
 use mathlib.Core.Path.{_≡_, refl, sym, ap, _∙_}
-use Prim.Native.Nat.{ℕ, zero, suc, _+_, _<_}
+use Prim.Native.Nat.{ℕ, suc, _+_, _<_}
 use native.Mathlib.Omega.{arith}
 use lib.ListN.{length, getD, take, drop, set}
-use lib.Seq.{length-take-le, take-all}
-use Rattle.std.proofs.shelf.Lists.{take-more, drop-more, take-at}
+use lib.Seq.{length-take-le}
+use Rattle.std.proofs.shelf.Lists.{take-more, drop-more}
 use Rattle.calculus.specs.declared.code.MethodEntry.{MethodEntry}
 use Rattle.store.specs.Meaning.{Meaning}
 use Rattle.store_laws.specs.declared.runs.StoreAnswer.{StoreAnswer}

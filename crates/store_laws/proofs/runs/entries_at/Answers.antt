@@ -1,7 +1,7 @@
 use mathlib.Core.Path.{_≡_, sym, ap, _∙_}
 use Prim.Native.Nat.{_+_, _-_}
 use native.Mathlib.Omega.{arith}
-use lib.ListN.{length, take, drop, length-drop}
+use lib.ListN.{take, drop, length-drop}
 use lib.Seq.{take-all, take-nil}
 use Rattle.std.proofs.shelf.Lists.{drop-all}
 use Rattle.store_laws.proofs.runs.entries_at.Needs as need

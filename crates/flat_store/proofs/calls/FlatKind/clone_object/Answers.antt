@@ -1,6 +1,6 @@
 use mathlib.Core.Path.{sym, _∙_}
 use native.Mathlib.Omega.{arith}
-use lib.ListN.{length, length-set}
+use lib.ListN.{length-set}
 use Rattle.store.specs.Layout.{part}
 use Rattle.store.specs.Meaning.{no-trial}
 use Rattle.store.proofs.Spans.{length-part}

@@ -1,5 +1,4 @@
-use mathlib.Core.List.{List}
-use mathlib.Core.Path.{_≡_, refl, sym, ap, _∙_}
+use mathlib.Core.Path.{_≡_, refl, sym, _∙_}
 use native.Mathlib.Omega.{arith}
 use Prim.Native.Nat.{ℕ, _+_, _<_, _≤_}
 use lib.ListN.{length, set, length-set}
@@ -12,7 +11,6 @@ use Rattle.store.proofs.Tells.{room-is, objects-full, methods-full, made-is, no
 use Rattle.store.proofs.Writes.{cut-before, cut-new}
 use Rattle.sharing_store.specs.declared.entries.SharedEntry.{SharedEntry}
 use Rattle.sharing_store.specs.Views.{no-entry, own-span, held-span, laid-out, sound}
-use Rattle.sharing_store.specs.States.{entry}
 use Rattle.sharing_store.proofs.Sounds.{sound-from}
 use Rattle.sharing_store.proofs.Walks.{sd-of}
 use Rattle.sharing_store.proofs.More.{put-at, put-agrees, put-made}

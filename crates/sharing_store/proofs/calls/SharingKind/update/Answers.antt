@@ -1,15 +1,14 @@
-use mathlib.Core.List.{List}
-use mathlib.Core.Path.{_≡_, refl, sym, ap, subst, _∙_}
+use mathlib.Core.Path.{_≡_, refl, sym, ap, _∙_}
 use Prim.Native.Nat.{ℕ, _+_, _<_}
 use native.Mathlib.Omega.{arith}
 use lib.ListN.{getD, set}
-use Rattle.store.specs.Layout.{objects-in, part}
+use Rattle.store.specs.Layout.{objects-in}
 use Rattle.store.specs.Meaning.{Meaning, no-trial, with-objects, with-closure, updated}
 use Rattle.store.proofs.Spans.{no-method}
 use Rattle.store.proofs.Tells.{update-is, updated-is, no-update, no-updated, no-place-update, no-place-updated}
 use Rattle.sharing_store.specs.Views.{held-span}
 use Rattle.sharing_store.specs.States.{sharing-meaning, entry}
-use Rattle.sharing_store.proofs.Told.{told, span, own-fits, set-one}
+use Rattle.sharing_store.proofs.Told.{told, own-fits, set-one}
 use Rattle.sharing_store.proofs.calls.SharingKind.update.Needs as need
 
 pub returns-then-location-self : need.returns-then-location-self

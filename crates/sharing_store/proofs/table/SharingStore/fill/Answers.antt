@@ -1,11 +1,11 @@
 use mathlib.Core.List.{List}
-use mathlib.Core.Path.{_≡_, refl, sym, ap, subst, _∙_}
+use mathlib.Core.Path.{_≡_, refl, sym, subst, _∙_}
 use Prim.Native.Nat.{ℕ}
 use native.Mathlib.Omega.{arith}
-use lib.ListN.{length, take, set, length-set}
+use lib.ListN.{set, length-set}
 use Rattle.store.specs.Layout.{objects-in}
 use Rattle.sharing_store.specs.declared.entries.SharedEntry.{SharedEntry}
-use Rattle.sharing_store.specs.Views.{view, Filled, Sound, entry-at, held-span, laid-out, sound}
+use Rattle.sharing_store.specs.Views.{view, Filled, entry-at, held-span, laid-out, sound}
 use Rattle.sharing_store.specs.States.{entry, with-held}
 use Rattle.sharing_store.proofs.Spaces.{space-in}
 use Rattle.sharing_store.proofs.Sounds.{sound-tells, sound-from}

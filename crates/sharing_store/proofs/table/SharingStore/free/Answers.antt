@@ -1,13 +1,13 @@
-use mathlib.Core.Path.{_≡_, refl, sym, ap, subst, _∙_}
+use mathlib.Core.Path.{_≡_, sym, ap, subst, _∙_}
 use mathlib.Core.List.{List}
 use Prim.Native.Nat.{ℕ}
 use native.Mathlib.Omega.{arith}
-use lib.ListN.{length, take, set, length-set}
+use lib.ListN.{set, length-set}
 use Rattle.sharing_store.specs.declared.entries.SharedEntry.{SharedEntry}
-use Rattle.sharing_store.specs.Views.{view, Filled, Sound, entry-at}
-use Rattle.sharing_store.specs.States.{entry, shown, Walked}
+use Rattle.sharing_store.specs.Views.{entry-at}
+use Rattle.sharing_store.specs.States.{entry, Walked}
 use Rattle.sharing_store.proofs.Sounds.{sound-from}
-use Rattle.sharing_store.proofs.Walks.{walk-begins, walk-goes-on, walk-ends, falls, fills-then, counts-then, sd-of, with-last, entries-but, laid-after, objects-after, sound-after, emptied-is, already-empty}
+use Rattle.sharing_store.proofs.Walks.{walk-begins, walk-goes-on, walk-ends, falls, fills-then, sd-of, with-last, entries-but, laid-after, objects-after, sound-after, emptied-is, already-empty}
 use Rattle.sharing_store.proofs.table.SharingStore.free.Needs as need
 
 pub loop-at-holds : need.loop-at-holds
