@@ -5,18 +5,22 @@ ghost use Rattle.calculus.specs.Text.{text-of};
 ghost use Rattle.machine_model.specs.Settle.{Sound, fits};
 ghost use Rattle.machine_model.specs.Run.{turn, run-for};
 ghost use Rattle.machine_model.specs.Outcome.{place-in, answered, over, progress-after, with-progress, run-text, run-outcome};
-ghost use Rattle.machine.specs.Machine.{state-of, turn-of, ran-of};
+ghost use Rattle.machine.specs.Machine.{state-at, state-of, turn-of, ran-of};
 use crate::deciding::decide;
 use crate::machine::Machine;
+use crate::reducing::act;
+use crate::settling::settle;
 use calculus::area::used_of;
 use calculus::code::Code;
 use calculus::code::Counts;
 use calculus::code::Tables;
 use calculus::refusals::Place;
+use calculus::stack::Stack;
 use machine_model::answers::Fault;
 use machine_model::answers::Faults;
 use machine_model::answers::RunAnswer;
 use machine_model::answers::Stop;
+use machine_model::state::Cell;
 use machine_model::state::Frame;
 use machine_model::state::Progress;
 use machine_model::state::Registers;
@@ -27,34 +31,52 @@ const TRANSITIONS_LIMIT: u64 = 1 << 34;
 /// More reductions than any allowance allows.
 const REDUCTIONS_LIMIT: u64 = 1 << 32;
 
-impl<'a> Machine<'a> {
-    /// Makes all that is due and then one reduction, of the `left` that may still be made.
-    fn turn<S: Store>(&mut self, code: &Code<'_>, store: &mut S, left: u32) -> Result<(), Stop>
-        requires { ⌜ Sound (state-of (now self)) ⌝ }
-        ensures { λ r. ⌜ turn-of r (now (self .exit)) (meaning (now (store .exit))) ≡ turn left (text-of (now (code .entry))) (state-of (now (self .entry))) (meaning (now (store .entry))) ⌝ }
-    {
-        let redex = self.settle(code)?;
-        let action = decide(code, store, redex)?;
-        if left == 0 {
-            return Err(Stop::Paused);
-        }
-        if self.registers.allowance == 0 {
-            return Err(Stop::Refused(Fault::AllowanceSpent));
-        }
-        self.act(code, store, action)?;
-        Ok(())
+/// Makes all that is due and then one reduction, of the `left` that may still be made.
+fn turn<S: Store>(
+    registers: &mut Registers,
+    cells: &mut Stack<'_, Cell>,
+    frames: &mut Stack<'_, Frame>,
+    code: &Code<'_>,
+    store: &mut S,
+    left: u32,
+) -> Result<(), Stop>
+    requires { ⌜ Sound (state-at (now registers) (now cells) (now frames)) ⌝ }
+    ensures { λ r. ⌜ turn-of r (now (registers .exit)) (now (cells .exit)) (now (frames .exit)) (meaning (now (store .exit))) ≡ turn left (text-of (now (code .entry))) (state-at (now (registers .entry)) (now (cells .entry)) (now (frames .entry))) (meaning (now (store .entry))) ⌝ }
+{
+    let redex = settle(registers, cells, frames, code)?;
+    let action = decide(code, store, redex)?;
+    if left == 0 {
+        return Err(Stop::Paused);
     }
+    if registers.allowance == 0 {
+        return Err(Stop::Refused(Fault::AllowanceSpent));
+    }
+    act(registers, cells, frames, code, store, action)?;
+    Ok(())
+}
 
-    /// Runs until something stops it.
+impl<'a> Machine<'a> {
+    /// Runs until something stops it, on a copy of the registers that stays close at hand.
     fn work<S: Store>(&mut self, code: &Code<'_>, store: &mut S, n: u32) -> Stop
         requires { ⌜ Sound (state-of (now self)) ⌝ }
         ensures { λ r. ⌜ ran-of r (now (self .exit)) (meaning (now (store .exit))) ≡ run-for n (text-of (now (code .entry))) (state-of (now (self .entry))) (meaning (now (store .entry))) ⌝ }
     {
+        let mut registers = self.registers;
         let mut left = n;
         loop {
-            match self.turn(code, store, left) {
+            match turn(
+                &mut registers,
+                &mut self.cells,
+                &mut self.frames,
+                code,
+                store,
+                left,
+            ) {
                 Ok(()) => left -= 1,
-                Err(stop) => return stop,
+                Err(stop) => {
+                    self.registers = registers;
+                    return stop;
+                }
             }
         }
     }
