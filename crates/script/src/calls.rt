@@ -5,7 +5,6 @@ ghost use Rattle.script.specs.declared.calls.Unread.the-variants.{Expected as 
 ghost use Rattle.script.specs.Messages.{expected-text};
 use calculus::rows::Row;
 use calculus::values::Value;
-use std::alloc::AllocError;
 use std::alloc::Refused;
 use std::fmt;
 
@@ -67,7 +66,7 @@ pub enum Expected {
 
 impl Expected {
     /// The words for it.
-    pub fn text(self) -> &'static str
+    fn text(self) -> &'static str
         ensures { λ r. ⌜ now r ≡ expected-text self ⌝ }
     {
         match self {
@@ -117,14 +116,6 @@ pub impl From<Expected> for Unread as UnreadExpected {
 
     fn from(what: Expected) -> Unread {
         Unread::Expected(what)
-    }
-}
-
-pub impl From<AllocError> for Unread as UnreadAlloc {
-    ghost converts = { λ _ r. r ≡ NoMemory };
-
-    fn from(_error: AllocError) -> Unread {
-        Unread::NoMemory
     }
 }
 

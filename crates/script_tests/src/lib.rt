@@ -211,15 +211,25 @@ mod tests {
     #[test]
     fn texts(rt: LibcRuntime) -> Result<(), Fail> {
         let heap = rt.alloc();
-        let what = lacks(heap, Settings::new(), b"run 1 2")?;
-        check_eq(
-            format!(heap, "expected {what}")?.as_str(),
-            "expected nothing more on this line",
-        )?;
-        check_eq(Expected::SettingOnce.text(), "each setting at most once")?;
-        check_eq(
-            Expected::TrialLayer.text(),
-            "a store that is a trial layer (set it by 'store trial flat', say)",
-        )
+        let cases: [(&[u8], &str); 4] = [
+            (b"run 1 2", "expected nothing more on this line"),
+            (
+                b"run",
+                "expected a number of reductions, from 0 to 4294967295",
+            ),
+            (
+                b"lengths",
+                "expected an area's name: contents, operations, methods, cells, frames, objects or slots",
+            ),
+            (
+                b"store",
+                "expected flat, sharing, trial flat, trial sharing or trial trial sharing",
+            ),
+        ];
+        for (line, text) in cases {
+            let what = lacks(heap, Settings::new(), line)?;
+            check_eq(format!(heap, "expected {what}")?.as_str(), text)?;
+        }
+        Ok(())
     }
 }

@@ -6,13 +6,12 @@ use mathlib.Core.List.{List, [], _∷_, _++_, append-nil, append-assoc}
 use Prim.Native.Nat.{ℕ, zero, suc, _-_, _≤_, _<_}
 use native.Mathlib.Nat.{add-zero, sub-zero}
 use native.Mathlib.Omega.{arith}
-use lib.Dec.{eqb}
 use lib.ListN.{length, getD, take, drop}
-use Rattle.std.proofs.shelf.Tests.{cond-true, cond-false, cases-bool, cases-eq, eq-eqb, ne-eqb}
-use Rattle.std.proofs.shelf.Lists.{getD-drop, length-drop, take-rest, at-drop-all}
+use Rattle.std.proofs.shelf.Tests.{cond-true, cond-false, cases-bool}
+use Rattle.std.proofs.shelf.Lists.{getD-drop, length-drop, take-rest}
 use Rattle.std.specs.shelf.Lists.{All}
 use Rattle.words.specs.Laws.{Parted}
-use Rattle.words.specs.Words.{blank, Run, ended, words-after, words-in, is-nil}
+use Rattle.words.specs.Words.{blank, Run, ended, words-after, words-in}
 
 -- `&s[i..]` as the checker has it
 abbrev from : ℕ → List ℕ → List ℕ
@@ -68,30 +67,6 @@ one-word bs b n blanks r h =
     ∙ some n (from b bs) _ h (r .within)
     ∙ ap (λ ws. take n (from b bs) ∷ words-in ws) (sym (take-rest (from b bs) n))
     ∙ ap (λ k. take k (from b bs) ∷ words-in (from n (from b bs))) (sym (sub-zero n))
-
--- a word that was begun will end
-begun : (x : ℕ) (w bs : List ℕ) → is-nil (words-after (x ∷ w) bs) ≡ false
-begun x w [] = refl
-begun x w (b ∷ bs) = by (blank b) (begun x (w ++ b ∷ []) bs)
-  where
-    by : (d : Bool) → is-nil (words-after (x ∷ (w ++ b ∷ [])) bs) ≡ false → is-nil (cond d ((x ∷ w) ∷ words-in bs) (words-after (x ∷ (w ++ b ∷ [])) bs)) ≡ false
-    by true h = refl
-    by false h = h
-
-first-word : (bs : List ℕ) → 0 < length bs → (blank (getD bs 0 0) ≡ true → ⊥) → is-nil (words-in bs) ≡ false
-first-word [] h n = absurd (omega arith)
-first-word (b ∷ bs) h n = by (blank b) n
-  where
-    by : (d : Bool) → (d ≡ true → ⊥) → is-nil (cond d (words-in bs) (words-after (b ∷ []) bs)) ≡ false
-    by true n = absurd (n refl)
-    by false n = begun b [] bs
-
--- no word is left exactly if all is blank
-pub all-blank : (bs : List ℕ) (b : ℕ) → Run true b bs → eqb b (length bs) ≡ is-nil (words-in bs)
-all-blank bs b r = ⊎-elim
-    (λ e. eq-eqb _ _ e ∙ sym (ap is-nil (skip b bs r ∙ at-drop-all words-in bs b (omega arith))))
-    (λ n. ne-eqb _ _ n ∙ sym (ap is-nil (skip b bs r) ∙ first-word (drop b bs) (omega (arith, length-drop b bs, r .within)) (λ e. r .stops (omega (arith, r .within)) (ap blank (sym (at-front b bs)) ∙ e))))
-    (cases-eq b (length bs))
 
 ended-before : (w : List ℕ) (us vs : List (List ℕ)) → ended w (us ++ vs) ≡ ended w us ++ vs
 ended-before [] us vs = refl

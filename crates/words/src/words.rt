@@ -35,6 +35,20 @@ fn run_of(bytes: &[u8], blanks: bool) -> usize
     bytes.len()
 }
 
+/// The first word of a line, if there is one, and what stands behind it.
+fn first_word(line: &[u8]) -> Option<(&[u8], &[u8])>
+    ensures { λ r. ⌜ BySome r
+        (words-in (now (line .entry)) ≡ [])
+        (λ p. words-in (now (line .entry)) ≡ now (p .0) ∷ words-in (now (p .1))) ⌝ }
+{
+    let line = &line[run_of(line, true)..];
+    let len = run_of(line, false);
+    if len == 0 {
+        return None;
+    }
+    Some((&line[0..len], &line[len..]))
+}
+
 /// The words of a line that are still to be read.
 #[derive(Drop)]
 pub struct Words<'a> {
@@ -53,7 +67,7 @@ impl<'a> Words<'a> {
     pub fn is_empty(&self) -> bool
         ensures { λ r. ⌜ r ≡ is-nil (left (now (self .entry))) ⌝ }
     {
-        run_of(self.rest, true) == self.rest.len()
+        first_word(self.rest).is_none()
     }
 
     /// Takes the next word, if there is one.
@@ -62,14 +76,9 @@ impl<'a> Words<'a> {
             ((left (now (self .entry)) ≡ []) × (left (now (self .exit)) ≡ []))
             (λ w. left (now (self .entry)) ≡ now w ∷ left (now (self .exit))) ⌝ }
     {
-        let rest = self.rest;
-        let rest = &rest[run_of(rest, true)..];
-        let len = run_of(rest, false);
-        if len == 0 {
-            return None;
-        }
-        self.rest = &rest[len..];
-        Some(&rest[0..len])
+        let (word, rest) = first_word(self.rest)?;
+        self.rest = rest;
+        Some(word)
     }
 }
 
