@@ -5,11 +5,9 @@ ghost use Rattle.calculus.specs.Text.{text-of};
 ghost use Rattle.machine_model.specs.Settle.{Sound, fits};
 ghost use Rattle.machine_model.specs.Run.{turn, run-for};
 ghost use Rattle.machine_model.specs.Outcome.{place-in, answered, over, progress-after, with-progress, run-text, run-outcome};
-ghost use Rattle.machine.specs.Machine.{state-at, state-of, turn-of, ran-of};
-use crate::deciding::decide;
+ghost use Rattle.machine_steps.specs.Parts.{state-at, turn-of};
+ghost use Rattle.machine.specs.Machine.{state-of, ran-of};
 use crate::machine::Machine;
-use crate::reducing::act;
-use crate::settling::settle;
 use calculus::area::used_of;
 use calculus::code::Code;
 use calculus::code::Counts;
@@ -24,6 +22,9 @@ use machine_model::state::Cell;
 use machine_model::state::Frame;
 use machine_model::state::Progress;
 use machine_model::state::Registers;
+use machine_steps::deciding::decide;
+use machine_steps::reducing::act;
+use machine_steps::settling::settle;
 use store::store::Store;
 
 /// More transitions than any allowance leads to.

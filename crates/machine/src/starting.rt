@@ -9,7 +9,6 @@ ghost use Rattle.calculus.specs.Held.{counted, laid, room};
 ghost use Rattle.calculus.specs.Text.{text-of};
 ghost use Rattle.machine_model.specs.Start.{givens-of, present, all-present, start-for, start-result, start-answer, start-state, started-if, cells-with, env-with, registers-at, begun, unused};
 ghost use Rattle.machine.specs.Machine.{state-of, given-at};
-use crate::fetching::add_cell;
 use crate::machine::Machine;
 use calculus::area::used_of;
 use calculus::code::Code;
@@ -24,6 +23,7 @@ use machine_model::state::Frame;
 use machine_model::state::Progress;
 use machine_model::state::Registers;
 use machine_model::state::Report;
+use machine_steps::fetching::add_cell;
 use store::store::Store;
 
 /// The number of givens of a program, if there is one of this number.

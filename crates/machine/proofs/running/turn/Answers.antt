@@ -6,7 +6,7 @@ use Rattle.machine_model.specs.Run.{turned}
 use Rattle.machine_model.proofs.Counting.{settled-sound}
 use Rattle.machine_model.proofs.Decides.{stands}
 use Rattle.machine_model.proofs.Runs.{turn-acts}
-use Rattle.machine.specs.Machine.{state-at}
+use Rattle.machine_steps.specs.Parts.{state-at}
 use Rattle.machine.proofs.running.turn.Needs as need
 
 pub act-requires : need.act-requires

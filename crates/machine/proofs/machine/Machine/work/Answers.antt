@@ -3,7 +3,7 @@ use native.Mathlib.Omega.{arith}
 use Rattle.calculus.specs.Text.{text-of}
 use Rattle.machine_model.proofs.Runs.{one-left, goes-on, stops-there}
 use Rattle.machine_model.proofs.Counting.{turn-sound}
-use Rattle.machine.specs.Machine.{state-at}
+use Rattle.machine_steps.specs.Parts.{state-at}
 use Rattle.machine.proofs.machine.Machine.work.Needs as need
 
 pub sub-left : need.sub-left

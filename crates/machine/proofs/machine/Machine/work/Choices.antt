@@ -1,6 +1,7 @@
 use mathlib.Core.Path.{_≡_}
 use Rattle.calculus.specs.Text.{text-of}
-use Rattle.machine.specs.Machine.{state-at, state-of}
+use Rattle.machine_steps.specs.Parts.{state-at}
+use Rattle.machine.specs.Machine.{state-of}
 use Rattle.machine_model.specs.Settle.{Sound}
 use Rattle.machine_model.specs.Run.{run-for}
 use Rattle.machine.proofs.machine.Machine.work.Given as given

@@ -6,7 +6,7 @@ ghost use Rattle.store.specs.Meaning.{make-result, made-by};
 ghost use Rattle.calculus.specs.Held.{laid, room};
 ghost use Rattle.calculus.specs.Text.{text-of};
 ghost use Rattle.machine_model.specs.Reduce.{room-to-enter, entering, entered, acted, entries-at, Ready, Stands};
-ghost use Rattle.machine.specs.Machine.{state-at, move-of, with-value};
+ghost use Rattle.machine_steps.specs.Parts.{state-at, move-of, with-value};
 use crate::fetching::add_cell;
 use calculus::code::Code;
 use calculus::code::MethodEntry;
@@ -99,7 +99,7 @@ fn entries_at<'b>(code: &Code<'b>, first: u32, count: u32) -> &'b [MethodEntry]
 }
 
 /// Makes the reduction, or says what refuses it.
-pub(crate) fn act<S: Store>(
+pub fn act<S: Store>(
     registers: &mut Registers,
     cells: &mut Stack<'_, Cell>,
     frames: &mut Stack<'_, Frame>,

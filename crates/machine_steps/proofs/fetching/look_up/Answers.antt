@@ -4,7 +4,7 @@ use native.Mathlib.Omega.{arith}
 use Rattle.calculus.specs.Held.{laid}
 use Rattle.machine_model.specs.State.{walked}
 use Rattle.machine_model.proofs.Walks.{walked-none, walked-here, walked-on, variable-is}
-use Rattle.machine.proofs.fetching.look_up.Needs as need
+use Rattle.machine_steps.proofs.fetching.look_up.Needs as need
 
 pub returns-in-None : need.returns-in-None
 returns-in-None c =

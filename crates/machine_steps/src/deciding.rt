@@ -15,7 +15,7 @@ use machine_model::steps::Redex;
 use store::store::Store;
 
 /// What is to be done about a redex, but for the limits.
-pub(crate) fn decide<S: Store>(code: &Code<'_>, store: &S, redex: Redex) -> Result<Action, Fault>
+pub fn decide<S: Store>(code: &Code<'_>, store: &S, redex: Redex) -> Result<Action, Fault>
     ensures { λ r. ⌜ r ≡ decided (text-of (now (code .entry))) (meaning (now (store .entry))) redex ⌝ }
 {
     match redex {

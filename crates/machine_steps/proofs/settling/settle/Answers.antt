@@ -6,9 +6,9 @@ use Rattle.calculus.specs.Held.{held, room}
 use Rattle.machine_model.specs.declared.steps.Due.the-variants.{Done, Astray, Reduce}
 use Rattle.calculus.specs.Text.{text-of}
 use Rattle.machine_model.specs.State.{due}
-use Rattle.machine.specs.Machine.{state-at}
+use Rattle.machine_steps.specs.Parts.{state-at}
 use Rattle.machine_model.proofs.Settles.{settled-fill, settled-back, stopped, due-fills-vacant}
-use Rattle.machine.proofs.settling.settle.Needs as need
+use Rattle.machine_steps.proofs.settling.settle.Needs as need
 
 pub loop-value-again-in-Fill : need.loop-value-again-in-Fill
 loop-value-again-in-Fill c =

@@ -58,7 +58,7 @@ fn cell_at(cells: &Stack<'_, Cell>, env: u32) -> Option<Cell>
 }
 
 /// Adds a cell where there is room, and answers the environment that begins with it.
-pub(crate) fn add_cell(cells: &mut Stack<'_, Cell>, cell: Cell) -> u32
+pub fn add_cell(cells: &mut Stack<'_, Cell>, cell: Cell) -> u32
     requires { ⌜ length (laid (now cells)) < room (now cells) ⌝ }
     ensures cells { λ _. ⌜ laid (now (cells .exit)) ≡ laid (now (cells .entry)) ++ (cell ∷ []) ⌝ }
     ensures room { λ _. ⌜ room (now (cells .exit)) ≡ room (now (cells .entry)) ⌝ }

@@ -6,7 +6,7 @@ ghost use Rattle.std.specs.Vec.{made};
 ghost use Rattle.calculus.specs.Text.{text-of};
 ghost use Rattle.machine_model.specs.State.{due, reads};
 ghost use Rattle.machine_model.specs.Settle.{settled, rest, Sound};
-ghost use Rattle.machine.specs.Machine.{state-at};
+ghost use Rattle.machine_steps.specs.Parts.{state-at};
 use crate::fetching::begin;
 use crate::fetching::fetch;
 use crate::fetching::go_on;
@@ -52,7 +52,7 @@ fn next(
 }
 
 /// Makes every silent transition that is due.
-pub(crate) fn settle(
+pub fn settle(
     registers: &mut Registers,
     cells: &Stack<'_, Cell>,
     frames: &mut Stack<'_, Frame>,

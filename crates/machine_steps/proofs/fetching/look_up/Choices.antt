@@ -2,7 +2,7 @@ use mathlib.Core.Path.{_≡_}
 use Prim.Native.Nat.{_-_, _<_, _^_}
 use Rattle.calculus.specs.Held.{laid}
 use Rattle.machine_model.specs.State.{walked}
-use Rattle.machine.proofs.fetching.look_up.Given as given
+use Rattle.machine_steps.proofs.fetching.look_up.Given as given
 
 abbrev pub Inv-loop-cell : given.InvT-loop-cell
 Inv-loop-cell l = walked (l .left) (laid (l .cells)) (l .at) ≡ walked (l .index - 1) (laid (l .cells)) (l .env)
