@@ -19,7 +19,7 @@ use Rattle.store.specs.Meaning.{Meaning, Object, Trial, no-trial, closed, opene
 use Rattle.trial_layer.specs.Laws.{AllPlaced}
 use Rattle.trial_layer.specs.Trials.{undo}
 use Rattle.trial_layer.proofs.Booking.{placed-front, placed-set, placed-push}
-use Rattle.trial_layer.proofs.Entries.{nth-below, nth-set}
+use Rattle.store.proofs.Nth.{nth-some, nth-set}
 use Rattle.trial_layer.proofs.Undoing.{undo-front, undo-put}
 use Rattle.machine_model.specs.declared.state.Cell.{Cell}
 use Rattle.semantics.specs.Objects.{Store, relabel}
@@ -164,7 +164,7 @@ module _ (T : Text) (cells : List Cell) (os : List Object) (l p : ℕ) (c : Clos
   notes-placed notes h =
       let q : Object = set o p (with-closure x c) in
       let e : length q ≡ length o = length-set o p (with-closure x c) in
-      placed-push after notes note (placed-set o q e os l ho notes h) (q, nth-set os l o q ho, omega (arith, e, nth-below o p x hx))
+      placed-push after notes note (placed-set o q e os l ho notes h) (q, sym (nth-set os l o q (sym ho)), omega (arith, e, nth-some o p x (sym hx)))
 
   noted-by : (n n′ u : ℕ) (notes : List OldMethod) (σ₂ : Store Term) (b : Bool) → ltb (length notes) 256 ≡ b → TrialStands T cells os σ (opened n notes) (on-trial n′ σ₂ u) →
       TrialStands T cells after σ′ (cond b (opened n (notes ++ (note ∷ []))) (overrun n)) (on-trial n′ σ₂ (suc u))
