@@ -32,8 +32,8 @@ use store::closures::Closure;
 use store::closures::Method;
 use store::layout::Span;
 use store::store::Store;
+use trial_layer::calls::TrialKind;
 use trial_layer::layer::TrialLayer;
-use trial_layer::trial_store::TrialStore;
 
 /// How long an area is made: a longer one counts as no longer.
 fn area(length: u32) -> usize {

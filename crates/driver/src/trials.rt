@@ -7,10 +7,10 @@ use session::session::Session;
 use sharing_store::calls::SharingKind;
 use sharing_store::table::SharingStore;
 use store::store::Store;
+use trial_layer::calls::TrialKind;
 use trial_layer::faults::TrialFault;
 use trial_layer::layer::TrialLayer;
 use trial_layer::token::Token;
-use trial_layer::trial_store::TrialStore;
 
 /// A store with what a session over it answers to the trial calls: none of them where it is no trial layer.
 pub trait TrialCalls: Store + Sized {
