@@ -1,3 +1,5 @@
 //! Answers as text.
+#![tactic(auto)]
+
 pub mod answers;
 pub mod operations;

@@ -1,4 +1,6 @@
 //! The definitions that every other crate cites: rows, values, operation lists, refusals, and the bounded stack.
+#![tactic(auto)]
+
 pub mod area;
 pub mod code;
 pub mod lookup;

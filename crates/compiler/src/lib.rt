@@ -1,4 +1,6 @@
 //! Rows become operation lists.
+#![tactic(auto)]
+
 ghost use Rattle.std.specs.Prelude.{◌≡◌, MatchResult};
 ghost use Rattle.compiler.specs.Compile.{answer, Compiled, Untouched};
 

@@ -1,4 +1,6 @@
 //! What the benchmark of compile and list_back calls from outside.
+#![tactic(auto)]
+
 use calculus::code::{Counts, ListEntry, MethodEntry, Operation, Tables};
 use calculus::rows::{FIGURE, LET, Row};
 use compiler::compile;

@@ -1,5 +1,7 @@
 //! Runs compile and list_back as the lines of the input say: on worked examples, on code areas made by hand, and on
 //! many tables made at random. A line that begins with `#` is repeated in the output.
+#![tactic(auto)]
+
 mod making;
 mod showing;
 mod trying;

@@ -1,4 +1,6 @@
 //! Reads a session script on standard input and prints the answers.
+#![tactic(auto)]
+
 use driver::run_script;
 use std::io;
 

@@ -1,4 +1,6 @@
 //! A script from its first line to its last: reads calls, carries them out in a session, and prints the answers.
+#![tactic(auto)]
+
 mod performing;
 mod reading;
 mod showing;

@@ -1,4 +1,6 @@
 //! The laws of the layout: what compiled tables stand for.
+#![tactic(auto)]
+
 ghost use Rattle.layout.specs.Laws.{LaidOut, Lasts, LayoutSizes, OneTerm, Worked};
 
 /// A compiled program stands, under its number, for the operation tree of its term.

@@ -1,4 +1,6 @@
 //! Listing back: operation lists as rows.
+#![tactic(auto)]
+
 ghost use Rattle.std.specs.Prelude.{◌≡◌, ℕ, ◌<◌, ◌≤◌, true, List, map, length, take, drop, IfOk, Some};
 ghost use Rattle.calculus.specs.Held.{counted};
 ghost use Rattle.calculus.specs.Terms.{Term};

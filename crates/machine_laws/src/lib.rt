@@ -1,4 +1,6 @@
 //! The laws of the table machine: what it holds stands for the machine on trees, and what it does is what that machine does.
+#![tactic(auto)]
+
 ghost use Rattle.machine_laws.specs.Settling.{Settles};
 ghost use Rattle.machine_laws.specs.Once.{StandsOnce};
 ghost use Rattle.machine_laws.specs.Reducing.{Judges};

@@ -1,4 +1,6 @@
 //! The reference of a session, in the words of the calculus: terms, objects and reductions, with the limits.
+#![tactic(auto)]
+
 ghost use Rattle.reference.specs.Laws.{MovesReduce, Decided, NeverAstray, EndsShow, Unique};
 
 /// The moves of the reference are the reductions of the calculus, of the same kinds.

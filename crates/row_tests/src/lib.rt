@@ -1,4 +1,6 @@
 //! Tests of the check of rows: the longest table, and each fault where it stands.
+#![tactic(auto)]
+
 #[cfg(test)]
 mod tests {
     use calculus::refusals::{Refusal, RowFault};

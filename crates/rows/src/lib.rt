@@ -1,4 +1,6 @@
 //! The check of a table of rows.
+#![tactic(auto)]
+
 ghost use Rattle.std.specs.Prelude.{◌≡◌, ℕ, ◌+◌, ◌-◌, ◌*◌, ◌<◌, ◌≤◌, List, [], ◌∷◌, ◌++◌, length, take, drop, IfOk};
 ghost use Rattle.calculus.specs.Rows.{has};
 ghost use Rattle.calculus.specs.Sizes.{row_sizes};

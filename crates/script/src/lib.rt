@@ -1,4 +1,6 @@
 //! The session script: a line of text into a setting or a call.
+#![tactic(auto)]
+
 pub mod calls;
 mod keywords;
 pub mod lines;

@@ -1,4 +1,6 @@
 //! The program on a script of row checks.
+#![tactic(auto)]
+
 use driver::run_script;
 use std::io;
 

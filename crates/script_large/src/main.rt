@@ -1,4 +1,6 @@
 //! The program on a model of more than a hundred rows.
+#![tactic(auto)]
+
 use driver::run_script;
 use std::io;
 

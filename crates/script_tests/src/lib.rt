@@ -1,4 +1,6 @@
 //! Tests of the script: lines that are none, what is expected there, and what a call is read as.
+#![tactic(auto)]
+
 #[cfg(test)]
 mod tests {
     use calculus::rows::Row;

@@ -1,4 +1,6 @@
 //! The program on a long mixed script over the store setting 'trial sharing'.
+#![tactic(auto)]
+
 use driver::run_script;
 use std::io;
 

@@ -1,5 +1,7 @@
 //! The calculus, the reference with frames, the abstract machine on trees and on plain lists, and the laws by which they agree.
 //! Each function below names one law by its contract; docs/SEMANTICS.md explains them.
+#![tactic(auto)]
+
 ghost use Rattle.semantics.specs.Laws.{ReductionIsDeterministic, ReductionIsFound, StuckIsFaulty, ReductionKeepsWellFormed, ProgramsStartWellFormed, FramesReduceAlike, FramesKeepWellFormed, TranslationUnloads, StepIsTransition, MachineIsDeterministic, SilentKeepsUnloading, BetaIsReduction, SettledAgrees, MachineSettles, StackIsFrames, TransitionsAreCounted, TransitionsAreOwed, ListsAreFlatTrees, ListsAreDeterministic, ListsRunAsTrees, ListsEndAsTrees, RunsAgree, FinishedRunsAgree, BlockedRunsAgree, BlockedRunsAreFaulty, ListRunsAgree};
 ghost use Rattle.semantics.specs.Examples.{MarkedExamples};
 

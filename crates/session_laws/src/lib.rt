@@ -1,4 +1,6 @@
 //! The main theorem: a session agrees with the calculus.
+#![tactic(auto)]
+
 ghost use Rattle.session_laws.specs.Main.{CallsAgree, SessionsAgree};
 ghost use Rattle.session_laws.specs.Laws.{CompileIsDecided, CallsAreUnique, CallsLeaveOne, EveryListIsPerformed};
 ghost use Rattle.session_laws.specs.Areas.{AreasAreSessions};

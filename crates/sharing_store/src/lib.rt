@@ -1,4 +1,6 @@
 //! The sharing store: a clone reserves its methods, and reads those of what it clones until one of the two is updated.
+#![tactic(auto)]
+
 pub mod calls;
 pub mod entries;
 pub mod table;

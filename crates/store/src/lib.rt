@@ -1,4 +1,6 @@
 //! What a store of objects means, and the calls that every kind of store has.
+#![tactic(auto)]
+
 pub mod closures;
 pub mod faults;
 pub mod layout;

@@ -1,4 +1,6 @@
 //! Times the two kinds of store against each other, when asked to by an argument.
+#![tactic(auto)]
+
 mod loads;
 
 use crate::loads::{Updates, clones, lone_setup, lone_updates};

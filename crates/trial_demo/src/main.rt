@@ -1,4 +1,6 @@
 //! Updates tried on a few objects, and put back; the same updates again, and kept.
+#![tactic(auto)]
+
 use calculus::code::MethodEntry;
 use flat_store::table::FlatStore;
 use std::io;

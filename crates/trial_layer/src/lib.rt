@@ -1,4 +1,6 @@
 //! Trials over any store: try updates, then keep them or put them back.
+#![tactic(auto)]
+
 mod book;
 mod book_methods;
 pub mod calls;

@@ -1,4 +1,6 @@
 //! Drives a flat store and a sharing store through the same calls, and prints what they answer and what they hold.
+#![tactic(auto)]
+
 mod calls;
 mod compared;
 mod shown;
