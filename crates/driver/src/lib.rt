@@ -171,7 +171,7 @@ fn drive_sharing(script: &mut Script, first: Call, layers: u8) -> io::Result<()>
 
 /// Reads the script on standard input and prints the answers on standard output. A bad line ends it, after a message on standard error.
 pub fn run_script(rt: HostRuntime) -> io::Result<()> {
-    let mut script = Script::new(rt);
+    let mut script = Script::new(rt)?;
     let Some(first) = script.next_call()? else {
         return Ok(());
     };

@@ -17,14 +17,14 @@ pub struct Script {
 }
 
 impl Script {
-    pub fn new(rt: HostRuntime) -> Script {
-        let lines = BufReader::new(rt.stdin()).lines(rt.alloc());
-        Script {
+    pub fn new(rt: HostRuntime) -> io::Result<Script> {
+        let lines = BufReader::new(rt.alloc(), rt.stdin())?.lines(rt.alloc());
+        Ok(Script {
             rt,
             lines,
             settings: Settings::new(),
             line: 0,
-        }
+        })
     }
 
     pub fn heap(&self) -> Global {
