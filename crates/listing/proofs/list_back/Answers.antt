@@ -10,17 +10,17 @@ use Rattle.listing.proofs.list_back.Goals as goal
 pub returns-in-Some : goal.returns-in-Some
 returns-in-Some c =
     let u = c.in-Some.ensures in
-    let w = c.list-program.ensures in
+    let w = c.list_program.ensures in
     let before = c.args.area.now in
-    let after = c.list-program.new.rows in
+    let after = c.list_program.new.rows in
     let stack = c.args.stack.now in
     let is = w.answer ∙ ap (λ (T : Text). listed T (lent_rooms before stack) c.args.program) u.1 ∙ sym (cond-true _ _ _ u.0) in
     record {
       answer = is;
-      kept = kept_of c.list-program.result before after w.kept;
-      only = gives_only c.args.tables.now c.args.counts c.args.program before after stack c.list-program.result is;
-      stands = gives_term c.args.tables.now c.args.counts c.args.program c.list-program.result before after stack is w.kept;
-      compiled = gives_compiled c.args.tables.now c.args.counts c.args.program c.list-program.result before after stack is w.kept;
+      kept = kept_of c.list_program.result before after w.kept;
+      only = gives_only c.args.tables.now c.args.counts c.args.program before after stack c.list_program.result is;
+      stands = gives_term c.args.tables.now c.args.counts c.args.program c.list_program.result before after stack is w.kept;
+      compiled = gives_compiled c.args.tables.now c.args.counts c.args.program c.list_program.result before after stack is w.kept;
     }
 
 pub returns-in-None : goal.returns-in-None

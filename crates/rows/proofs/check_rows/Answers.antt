@@ -10,24 +10,24 @@ use Rattle.rows.proofs.Steps.{walk_left, walk_done}
 use Rattle.rows.proofs.Laws.{lawful}
 use Rattle.rows.proofs.check_rows.Goals as goal
 
-pub returns-in-err-end : goal.returns-in-err-end
-returns-in-err-end c =
+pub returns-in_err-end : goal.returns-in_err-end
+returns-in_err-end c =
     let ok : Readable c.args.rows.now c.args.givens = record { some_rows = omega arith; few_rows = omega arith; few_givens = omega arith } in
-    let p = err_from_is_err_and c.from-residual.result c.from-residual.ensures.1 in
-    let e = c.in-err-end.ensures.walks [] in
-    let l = lawful c.args.rows.now c.args.givens ok c.from-residual.result (rw (p.1, p.2) (ap (λ (o : Option Refusal). sized o (row_sizes c.args.rows.now)) (sym e))) in
+    let p = err_from_is_err_and c.from_residual.result c.from_residual.ensures.1 in
+    let e = c.in_err-end.ensures.walks [] in
+    let l = lawful c.args.rows.now c.args.givens ok c.from_residual.result (rw (p.1, p.2) (ap (λ (o : Option Refusal). sized o (row_sizes c.args.rows.now)) (sym e))) in
     record { verdict = l.0; accepts = l.1; first = l.2 }
 
 pub returns-then-end-rows : goal.returns-then-end-rows
 returns-then-end-rows c =
     let ok : Readable c.args.rows.now c.args.givens = record { some_rows = omega arith; few_rows = omega arith; few_givens = omega arith } in
-    let e = c.in-ok-end.ensures.walks [] ∙ walk_left c.args.rows.now c.in-ok-end.end c.if-end-rows.true in
+    let e = c.in_ok-end.ensures.walks [] ∙ walk_left c.args.rows.now c.in_ok-end.end c.if-end-rows.true in
     let l = lawful c.args.rows.now c.args.givens ok _ (ap (λ (o : Option Refusal). sized o (row_sizes c.args.rows.now)) (sym e)) in
     record { verdict = l.0; accepts = l.1; first = l.2 }
 
 pub returns : goal.returns
 returns c =
     let ok : Readable c.args.rows.now c.args.givens = record { some_rows = omega arith; few_rows = omega arith; few_givens = omega arith } in
-    let e = c.in-ok-end.ensures.walks [] ∙ walk_done c.args.rows.now c.in-ok-end.end c.if-end-rows.false in
-    let l = lawful c.args.rows.now c.args.givens ok _ (ap Ok c.sizes-of.ensures ∙ ap (λ (o : Option Refusal). sized o (row_sizes c.args.rows.now)) (sym e)) in
+    let e = c.in_ok-end.ensures.walks [] ∙ walk_done c.args.rows.now c.in_ok-end.end c.if-end-rows.false in
+    let l = lawful c.args.rows.now c.args.givens ok _ (ap Ok c.sizes_of.ensures ∙ ap (λ (o : Option Refusal). sized o (row_sizes c.args.rows.now)) (sym e)) in
     record { verdict = l.0; accepts = l.1; first = l.2 }

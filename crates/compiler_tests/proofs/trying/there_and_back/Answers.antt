@@ -21,4 +21,4 @@ returns-in-Ok c n e h l =
     let x = k.term.0 in
     let w = k.term.1 in
     let before : Text = used c.args.tables.now c.args.counts.now in
-    c.list-back.ensures.compiled before nothing c.args.rows.now c.args.givens x k.fits (k.appended x w ∙ sym (nothing_more _)) (k.number ∙ sym (ap (λ (y : Counts). y.contents) k.counted)) w.is w.fit h l
+    c.list_back.ensures.compiled before nothing c.args.rows.now c.args.givens x k.fits (k.appended x w ∙ sym (nothing_more _)) (k.number ∙ sym (ap (λ (y : Counts). y.contents) k.counted)) w.is w.fit h l

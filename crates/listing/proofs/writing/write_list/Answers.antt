@@ -8,8 +8,8 @@ use Rattle.listing.proofs.writing.write_list.Goals as goal
 pub loop-left-init : goal.loop-left-init
 loop-left-init c = (refl, record { up = omega arith; within = c.requires; rest = refl })
 
-pub put-row-requires : goal.put-row-requires
-put-row-requires c = c.loop-left.invariant.1.within
+pub put_row-requires : goal.put_row-requires
+put_row-requires c = c.loop-left.invariant.1.within
 
 pub loop-left-preserved : goal.loop-left-preserved
 loop-left-preserved c =
@@ -19,20 +19,20 @@ loop-left-preserved c =
     let long : length rows ≡ length c.args.rows.now = omega arith in
     let e : row_room rows ≡ row_room c.args.rows.now = omega arith in
     let row = written_row T (row_room c.args.rows.now) c.args.list c.args.found (take c.loop-left.at rows) k c.in-Ok.row (omega arith) (sym c.in-Ok.ensures) in
-    let w = c.in-Ok-put-row.ensures in (
+    let w = c.in-Ok-put_row.ensures in (
       ap (λ x. then x (written T (row_room c.args.rows.now) c.args.list c.args.found (k - 1))) (w.answer ∙ ap (λ n. put n (take c.loop-left.at rows) c.in-Ok.row) e) ∙ sym row ∙ c.loop-left.invariant.0,
       wrote_on _ _ _ _ _ _ c.loop-left.invariant.1 w.kept,
     )
 
-pub returns-in-Err-put-row : goal.returns-in-Err-put-row
-returns-in-Err-put-row c =
+pub returns-in-Err-put_row : goal.returns-in-Err-put_row
+returns-in-Err-put_row c =
     let T = text_of c.args.code.now in
     let rows = c.loop-left.rows in
     let k = c.loop-left.left in
     let long : length rows ≡ length c.args.rows.now = omega arith in
     let e : row_room rows ≡ row_room c.args.rows.now = omega arith in
     let row = written_row T (row_room c.args.rows.now) c.args.list c.args.found (take c.loop-left.at rows) k c.in-Ok.row (omega arith) (sym c.in-Ok.ensures) in
-    let w = c.in-Err-put-row.ensures in
+    let w = c.in-Err-put_row.ensures in
     record { answer = ap (λ x. then x (written T (row_room c.args.rows.now) c.args.list c.args.found (k - 1))) (w.answer ∙ ap (λ n. put n (take c.loop-left.at rows) c.in-Ok.row) e) ∙ sym row ∙ c.loop-left.invariant.0; kept = tt }
 
 pub returns-in-Err : goal.returns-in-Err

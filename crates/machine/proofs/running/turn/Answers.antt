@@ -10,15 +10,15 @@ use Rattle.machine.proofs.running.turn.Goals as goal
 pub act-requires : goal.act-requires
 act-requires g c =
     record {
-      ready = record { sound = settled_sound (text_of c.args.code.now) (state_at c.args.registers.now c.args.cells.now c.args.frames.now) (state_at c.settle.new.registers c.args.cells.now c.settle.new.frames) c.in-ok-redex.ensures.state c.requires; allowed = omega arith; short = c.in-ok-redex.ensures.short };
-      stands = stands (text_of c.args.code.now) (g.S.Store.meaning c.args.store.now) c.in-ok-redex.redex c.in-ok-action.action c.in-ok-action.ensures;
+      ready = record { sound = settled_sound (text_of c.args.code.now) (state_at c.args.registers.now c.args.cells.now c.args.frames.now) (state_at c.settle.new.registers c.args.cells.now c.settle.new.frames) c.in_ok-redex.ensures.state c.requires; allowed = omega arith; short = c.in_ok-redex.ensures.short };
+      stands = stands (text_of c.args.code.now) (g.S.Store.meaning c.args.store.now) c.in_ok-redex.redex c.in_ok-action.action c.in_ok-action.ensures;
     }
 
-pub returns-in-err-act : goal.returns-in-err-act
-returns-in-err-act g c =
-    let h = ap turned c.in-err-act.ensures ∙ turn_acts c.args.left (text_of c.args.code.now) (state_at c.args.registers.now c.args.cells.now c.args.frames.now) (state_at c.settle.new.registers c.args.cells.now c.settle.new.frames) (g.S.Store.meaning c.args.store.now) c.in-ok-redex.redex c.in-ok-action.action c.in-ok-redex.ensures.answer c.in-ok-redex.ensures.state c.in-ok-action.ensures (omega arith) (omega arith) in
+pub returns-in_err-act : goal.returns-in_err-act
+returns-in_err-act g c =
+    let h = ap turned c.in_err-act.ensures ∙ turn_acts c.args.left (text_of c.args.code.now) (state_at c.args.registers.now c.args.cells.now c.args.frames.now) (state_at c.settle.new.registers c.args.cells.now c.settle.new.frames) (g.S.Store.meaning c.args.store.now) c.in_ok-redex.redex c.in_ok-action.action c.in_ok-redex.ensures.answer c.in_ok-redex.ensures.state c.in_ok-action.ensures (omega arith) (omega arith) in
     search (rules, h)
 
 pub returns : goal.returns
 returns g c =
-    ap turned c.in-ok-act.ensures ∙ turn_acts c.args.left (text_of c.args.code.now) (state_at c.args.registers.now c.args.cells.now c.args.frames.now) (state_at c.settle.new.registers c.args.cells.now c.settle.new.frames) (g.S.Store.meaning c.args.store.now) c.in-ok-redex.redex c.in-ok-action.action c.in-ok-redex.ensures.answer c.in-ok-redex.ensures.state c.in-ok-action.ensures (omega arith) (omega arith)
+    ap turned c.in_ok-act.ensures ∙ turn_acts c.args.left (text_of c.args.code.now) (state_at c.args.registers.now c.args.cells.now c.args.frames.now) (state_at c.settle.new.registers c.args.cells.now c.settle.new.frames) (g.S.Store.meaning c.args.store.now) c.in_ok-redex.redex c.in_ok-action.action c.in_ok-redex.ensures.answer c.in_ok-redex.ensures.state c.in_ok-action.ensures (omega arith) (omega arith)

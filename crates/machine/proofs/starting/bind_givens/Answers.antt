@@ -9,7 +9,7 @@ loop-left-init c = let h = none_bound (laid c.args.cells.now) c.args.givens.now 
 pub loop-left-preserved : goal.loop-left-preserved
 loop-left-preserved c =
     let i = c.loop-left.invariant in
-    let a = c.bind-given-env.ensures in
-    let h = one_bound (laid c.args.cells.now) c.args.givens.now c.loop-left.left _ (laid c.loop-left.cells) (laid c.bind-given-env.new.cells) c.loop-left.env c.loop-left-test.true i.4 i.0 i.1 a.cells in
+    let a = c.bind_given-env.ensures in
+    let h = one_bound (laid c.args.cells.now) c.args.givens.now c.loop-left.left _ (laid c.loop-left.cells) (laid c.bind_given-env.new.cells) c.loop-left.env c.loop-left-test.true i.4 i.0 i.1 a.cells in
     let l = ap length a.cells ∙ length-append (laid c.loop-left.cells) _ in
     (h.0, a.env ∙ h.1, omega (arith, l, a.room, i.2, c.loop-left-test.true), a.room ∙ i.3, omega (arith, i.4))

@@ -1,4 +1,4 @@
 use Rattle.row_tests.proofs.tests.+push_lets.Given as goal
 
-abbrev pub decreases-push-lets : goal.decreases-push-lets
-decreases-push-lets l = l.height
+abbrev pub decreases-push_lets : goal.decreases-push_lets
+decreases-push_lets l = l.height

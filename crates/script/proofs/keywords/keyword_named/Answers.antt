@@ -3,5 +3,5 @@ use Rattle.words.proofs.Names.{unnamed}
 use Rattle.script.specs.Keywords.{keywords}
 use Rattle.script.proofs.keywords.keyword_named.Goals as goal
 
-pub returns_in_default : goal.returns-in-default
-returns_in_default c = let n = c.in-default in sym (unnamed keywords c.args.text.now (n.not-store, (n.not-lengths, (n.not-check, (n.not-compile, (n.not-list, (n.not_code, (n.not_start, (n.not-run, (n.not_open, (n.not-keep, (n.not-text, (n.not-objects, tt)))))))))))))
+pub returns-in_default : goal.returns-in_default
+returns-in_default c = let n = c.in_default in sym (unnamed keywords c.args.text.now (n.not-store, (n.not-lengths, (n.not-check, (n.not-compile, (n.not-list, (n.not_code, (n.not_start, (n.not-run, (n.not_open, (n.not-keep, (n.not-text, (n.not-objects, tt)))))))))))))

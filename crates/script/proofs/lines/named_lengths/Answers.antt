@@ -6,5 +6,5 @@ use Rattle.script.proofs.lines.named_lengths.Goals as goal
 pub loop-word-preserved : goal.loop-word-preserved
 loop-word-preserved c = (
   search rules,
-  step c.loop-word.named c.loop-word.lengths (left c.loop-word.words) c.loop-word.invariant.1 c.in-Some.ensures c.in-ok-area.ensures c.in-ok-length.ensures.value c.place.ensures c.with-lengths.ensures c.number.ensures.rest,
+  step c.loop-word.named c.loop-word.lengths (left c.loop-word.words) c.loop-word.invariant.1 c.in-Some.ensures c.in_ok-area.ensures c.in_ok-length.ensures.value c.place.ensures c.with-lengths.ensures c.number.ensures.rest,
 )

@@ -5,10 +5,10 @@ use Rattle.signs.specs.Reading.{value_in}
 use Rattle.signs.proofs.Fields.{headed}
 use Rattle.signs.proofs.read.read_value.Goals as goal
 
-pub returns-in-err-natural-32 : goal.returns-in-err-natural-32
-returns-in-err-natural-32 c =
-    c.from-residual.ensures ∙ ap (option_map Location) c.in-err-natural-32.ensures ∙ ap value_in (sym (headed c.args.word.now 64 (omega arith) (omega arith)))
+pub returns-in_err-natural_32 : goal.returns-in_err-natural_32
+returns-in_err-natural_32 c =
+    c.from_residual.ensures ∙ ap (option_map Location) c.in_err-natural_32.ensures ∙ ap value_in (sym (headed c.args.word.now 64 (omega arith) (omega arith)))
 
-pub returns-in-ok-natural-32 : goal.returns-in-ok-natural-32
-returns-in-ok-natural-32 c =
-    ap (option_map Location) c.in-ok-natural-32.ensures ∙ ap value_in (sym (headed c.args.word.now 64 (omega arith) (omega arith)))
+pub returns-in_ok-natural_32 : goal.returns-in_ok-natural_32
+returns-in_ok-natural_32 c =
+    ap (option_map Location) c.in_ok-natural_32.ensures ∙ ap value_in (sym (headed c.args.word.now 64 (omega arith) (omega arith)))

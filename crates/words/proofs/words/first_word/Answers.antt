@@ -3,7 +3,7 @@ use Rattle.words.proofs.Steps.{no_word, one_word}
 use Rattle.words.proofs.words.first_word.Goals as goal
 
 pub returns-then-len-eq0 : goal.returns-then-len-eq0
-returns-then-len-eq0 c = no_word c.args.line.now _ _ c.run-of.ensures c.run-of-len.ensures c.if-len-eq0.true
+returns-then-len-eq0 c = no_word c.args.line.now _ _ c.run_of.ensures c.run_of-len.ensures c.if-len-eq0.true
 
 pub returns : goal.returns
-returns c = one_word c.args.line.now _ _ c.run-of.ensures c.run-of-len.ensures (omega arith)
+returns c = one_word c.args.line.now _ _ c.run_of.ensures c.run_of-len.ensures (omega arith)

@@ -6,5 +6,5 @@ empty_line : (bs : List ℕ) → length bs < 1 → bs ≡ line_text bs
 empty_line [] h = refl
 empty_line (b ∷ bs) h = absurd (omega arith)
 
-pub returns_in_default : goal.returns-in-default
-returns_in_default c = let h : length c.args.line.now < 1 = search rules in empty_line c.args.line.now h
+pub returns-in_default : goal.returns-in_default
+returns-in_default c = let h : length c.args.line.now < 1 = search rules in empty_line c.args.line.now h

@@ -30,14 +30,14 @@ returns-then-from-self c =
     let r = methods_full _ _ _ _ _ t (span s l).size (omega arith) (omega arith) in
     record { answer = clone_is _ _ _ _ _ t l h _ r; state = not_cloned _ _ _ _ _ t l h _ r }
 
-pub copy-methods-requires : goal.copy-methods-requires
-copy-methods-requires c = record { within = span_in c.args.self.now c.args.location c.if-location-self.false; room = omega arith }
+pub copy_methods-requires : goal.copy_methods-requires
+copy_methods-requires c = record { within = span_in c.args.self.now c.args.location c.if-location-self.false; room = omega arith }
 
-pub invariant-of-self : goal.invariant-of-self
-invariant-of-self c =
+pub invariant_of-self : goal.invariant_of-self
+invariant_of-self c =
     let s = c.args.self.now in
-    let t = c.copy-methods.new.self in
-    let w = c.copy-methods.ensures in
+    let t = c.copy_methods.new.self in
+    let w = c.copy_methods.ensures in
     let from = span s c.args.location in
     let low = span_in s c.args.location c.if-location-self.false in
     let long = sym (length_part s.methods.now from (omega arith)) in
@@ -46,8 +46,8 @@ invariant-of-self c =
 pub returns : goal.returns
 returns c =
     let s = c.args.self.now in
-    let t = c.copy-methods.new.self in
-    let w = c.copy-methods.ensures in
+    let t = c.copy_methods.new.self in
+    let w = c.copy_methods.ensures in
     let l = c.args.location in
     let h = c.if-location-self.false in
     let from = span s l in
@@ -58,6 +58,6 @@ returns c =
     record {
       answer = clone_is _ _ _ _ _ (told s) l h _ room;
       state =
-          (λ i. record { objects = objects i; object_limit = w.object-limit-is i; method_limit = w.method-limit-is i; trial = no_trial })
+          (λ i. record { objects = objects i; object_limit = w.object_limit-is i; method_limit = w.method_limit-is i; trial = no_trial })
           ∙ cloned_is _ _ _ _ _ (told s) l h _ room;
     }

@@ -19,25 +19,25 @@ returns-then-entries-self c =
     let r = methods_full _ _ _ _ _ t (length es) (omega arith) (omega arith) in
     record { answer = r; state = not_made _ _ _ _ _ t es c.args.env _ r }
 
-pub invariant-of-self : goal.invariant-of-self
-invariant-of-self c =
+pub invariant_of-self : goal.invariant_of-self
+invariant_of-self c =
     let s = c.args.self.now in
-    let t = c.write-methods.new.self in
-    let w = c.write-methods.ensures in
+    let t = c.write_methods.new.self in
+    let w = c.write_methods.ensures in
     let es = c.args.entries.now in
     (simp length-set (omega arith), (omega arith, (omega arith, (omega arith, (omega arith, (omega arith, (laid_after s t (methods_of es c.args.env) (length es) w (sym (length-map es (method_of c.args.env))) (omega arith), tt)))))))
 
 pub returns : goal.returns
 returns c =
     let s = c.args.self.now in
-    let t = c.write-methods.new.self in
-    let w = c.write-methods.ensures in
+    let t = c.write_methods.new.self in
+    let w = c.write_methods.ensures in
     let es = c.args.entries.now in
     let room = room_is _ _ _ _ _ (told s) (length es) (omega arith) (omega arith) in
     let objects = objects_after s t (methods_of es c.args.env) (length es) w (sym (length-map es (method_of c.args.env))) (omega arith) in
     record {
       answer = room;
       state =
-          (λ i. record { objects = objects i; object_limit = w.object-limit-is i; method_limit = w.method-limit-is i; trial = no_trial })
+          (λ i. record { objects = objects i; object_limit = w.object_limit-is i; method_limit = w.method_limit-is i; trial = no_trial })
           ∙ made_is _ _ _ _ _ (told s) es c.args.env _ room;
     }

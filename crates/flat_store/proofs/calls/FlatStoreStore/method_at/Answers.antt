@@ -9,8 +9,8 @@ returns-then-location-self c = no_method_at _ _ _ _ _ (told c.args.self.now) c.a
 pub returns-then-place-span : goal.returns-then-place-span
 returns-then-place-span c = no_place _ _ _ _ _ (told c.args.self.now) c.args.location c.if-location-self.false c.args.place c.if-place-span.true
 
-pub overflow-add-result : goal.overflow-add-result
-overflow-add-result c = omega (arith, span_in c.args.self.now c.args.location c.if-location-self.false)
+pub overflow_add-result : goal.overflow_add-result
+overflow_add-result c = omega (arith, span_in c.args.self.now c.args.location c.if-location-self.false)
 
 pub bounds-self-span : goal.bounds-self-span
 bounds-self-span c = omega (arith, span_in c.args.self.now c.args.location c.if-location-self.false)

@@ -19,8 +19,8 @@ returns-then-place-span c =
     let k = c.if-place-span.true in
     record { answer = no_place_update _ _ _ _ _ t c.args.location h c.args.place k; state = no_place_updated _ _ _ _ _ t c.args.location h c.args.place k c.args.closure }
 
-pub overflow-add-at : goal.overflow-add-at
-overflow-add-at c = omega (arith, span_in c.args.self.now c.args.location c.if-location-self.false)
+pub overflow_add-at : goal.overflow_add-at
+overflow_add-at c = omega (arith, span_in c.args.self.now c.args.location c.if-location-self.false)
 
 pub bounds-self-at : goal.bounds-self-at
 bounds-self-at c = omega (arith, span_in c.args.self.now c.args.location c.if-location-self.false)

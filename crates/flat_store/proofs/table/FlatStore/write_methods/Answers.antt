@@ -13,8 +13,8 @@ loop-i-preserved c =
     record {
       methods_are = entry_more s.methods.now c.loop-i.self.methods.now s.method_count c.args.entries.now c.args.env c.loop-i.i _ w.methods-are (omega arith) (omega arith);
       objects_are = w.objects-are;
-      object_count_is = w.object-count-is;
-      method_count_is = w.method-count-is;
-      object_limit_is = w.object-limit-is;
-      method_limit_is = w.method-limit-is;
+      object_count_is = w.object_count-is;
+      method_count_is = w.method_count-is;
+      object_limit_is = w.object_limit-is;
+      method_limit_is = w.method_limit-is;
     }

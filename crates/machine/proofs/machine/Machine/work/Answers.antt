@@ -5,8 +5,8 @@ use Rattle.machine_model.proofs.Counting.{turn_sound}
 use Rattle.machine_steps.specs.Parts.{state_at}
 use Rattle.machine.proofs.machine.Machine.work.Goals as goal
 
-pub overflow-sub-left : goal.overflow-sub-left
-overflow-sub-left g c = omega (arith, one_left (text_of c.args.code.now) (state_at c.loop-left.registers c.loop-left.self.cells c.loop-left.self.frames) (g.S.Store.meaning c.loop-left.store) c.loop-left.left (state_at c.turn.new.registers c.turn.new.cells c.turn.new.frames) (g.S.Store.meaning c.turn.new.store) c.in-Ok.ensures)
+pub overflow_sub-left : goal.overflow_sub-left
+overflow_sub-left g c = omega (arith, one_left (text_of c.args.code.now) (state_at c.loop-left.registers c.loop-left.self.cells c.loop-left.self.frames) (g.S.Store.meaning c.loop-left.store) c.loop-left.left (state_at c.turn.new.registers c.turn.new.cells c.turn.new.frames) (g.S.Store.meaning c.turn.new.store) c.in-Ok.ensures)
 
 pub loop-left-smaller : goal.loop-left-smaller
 loop-left-smaller g c = omega (arith, one_left (text_of c.args.code.now) (state_at c.loop-left.registers c.loop-left.self.cells c.loop-left.self.frames) (g.S.Store.meaning c.loop-left.store) c.loop-left.left (state_at c.turn.new.registers c.turn.new.cells c.turn.new.frames) (g.S.Store.meaning c.turn.new.store) c.in-Ok.ensures)

@@ -17,9 +17,9 @@ returns g c =
       step =
           λ w.
           let o = areas_are_sessions c.args.self.now.tables c.args.self.now.counts (state_of c.args.self.now.machine) (layer_meaning g.S.Store.meaning c.args.self.now.store) w in
-          stepped (layer_meaning g.S.Store.meaning) (call.put_back c.args.token.number) c.args.self.now _ c.put-back.result _
-          c.put-back.ensures.answer
+          stepped (layer_meaning g.S.Store.meaning) (call.put_back c.args.token.number) c.args.self.now _ c.put_back.result _
+          c.put_back.ensures.answer
           (o.put_back_leaves c.args.token.number)
-          (over_same c.args.self.now.tables c.args.self.now.tables c.args.self.now.counts c.args.self.now.counts _ _ _ _ refl refl refl c.put-back.ensures.state)
+          (over_same c.args.self.now.tables c.args.self.now.tables c.args.self.now.counts c.args.self.now.counts _ _ _ _ refl refl refl c.put_back.ensures.state)
           w;
     }

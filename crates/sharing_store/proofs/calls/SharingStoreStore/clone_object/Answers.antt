@@ -45,30 +45,30 @@ abbrev cloned : (s : SharingStore) (l r : ℕ) → SharedEntry
 cloned s l r = new_entry s.method_count (entry s l).size (entry s l).held r s.object_count (entry s r).last
 
 pub bounds-self-root : goal.bounds-self-root
-bounds-self-root c = omega (arith, c.root-of-root.ensures.low, c.if-location-self.false)
+bounds-self-root c = omega (arith, c.root_of-root.ensures.low, c.if-location-self.false)
 
 pub bounds-self-root-2 : goal.bounds-self-root-2
-bounds-self-root-2 c = omega (arith, c.root-of-root.ensures.low, c.if-location-self.false)
+bounds-self-root-2 c = omega (arith, c.root_of-root.ensures.low, c.if-location-self.false)
 
-pub invariant-of-self : goal.invariant-of-self
-invariant-of-self c =
+pub invariant_of-self : goal.invariant_of-self
+invariant_of-self c =
     let s = c.args.self.now in
     let es = s.objects.now in
     let n = s.object_count in
-    let new = cloned s c.args.location c.root-of-root.result in
+    let new = cloned s c.args.location c.root_of-root.result in
     let room : n < length es = omega arith in
     let ok = ap (λ (fs : List SharedEntry). laid 0 (map own_span fs) s.method_count) (take-set es n new) ∙ s.laid_out in
     let fine = sound_from (set es n new) n (put_sound es n room new (sd_of s)) in
     (simp length-set (omega arith), (omega arith, (omega arith, (omega arith, (omega arith, (omega arith, (ok, (fine, tt))))))))
 
-pub invariant-of-self-2 : goal.invariant-of-self-2
-invariant-of-self-2 c =
+pub invariant_of-self-2 : goal.invariant_of-self-2
+invariant_of-self-2 c =
     let s = c.args.self.now in
     let es = s.objects.now in
     let n = s.object_count in
     let l = c.args.location in
-    let r = c.root-of-root.result in
-    let o = c.root-of-root.ensures in
+    let r = c.root_of-root.result in
+    let o = c.root_of-root.ensures in
     let new = cloned s l r in
     let room : n < length es = omega arith in
     let in_use : r < n = omega (arith, o.low, c.if-location-self.false) in
@@ -84,8 +84,8 @@ returns c =
     let ms = s.methods.now in
     let n = s.object_count in
     let l = c.args.location in
-    let r = c.root-of-root.result in
-    let o = c.root-of-root.ensures in
+    let r = c.root_of-root.result in
+    let o = c.root_of-root.ensures in
     let h = c.if-location-self.false in
     let new = cloned s l r in
     let space : n < length es = omega arith in

@@ -7,4 +7,4 @@ pub returns-then-location-self : goal.returns-then-location-self
 returns-then-location-self c = no_find _ _ _ _ _ (told c.args.self.now) c.args.location c.if-location-self.true c.args.label
 
 pub returns : goal.returns
-returns c = ap Ok c.place-of.ensures ∙ find_is _ _ _ _ _ (told c.args.self.now) c.args.location c.if-location-self.false c.args.label
+returns c = ap Ok c.place_of.ensures ∙ find_is _ _ _ _ _ (told c.args.self.now) c.args.location c.if-location-self.false c.args.label

@@ -31,10 +31,10 @@ returns-then-entries-self c =
 abbrev new_entry : ℕ → ℕ → ℕ → SharedEntry
 new_entry at size n = record { first = at; size = size; held = at; root = n; last = n; previous = n }
 
-pub invariant-of-self : goal.invariant-of-self
-invariant-of-self c =
+pub invariant_of-self : goal.invariant_of-self
+invariant_of-self c =
     let s = c.args.self.now in
-    let w = c.write-methods.ensures in
+    let w = c.write_methods.ensures in
     let es = s.objects.now in
     let n = s.object_count in
     let at = s.method_count in
@@ -48,7 +48,7 @@ invariant-of-self c =
 pub returns : goal.returns
 returns c =
     let s = c.args.self.now in
-    let w = c.write-methods.ensures in
+    let w = c.write_methods.ensures in
     let es = s.objects.now in
     let d = s.methods.now in
     let n = s.object_count in

@@ -9,8 +9,8 @@ returns-then-location-self c = no_method_at _ _ _ _ _ (told c.args.self.now) c.a
 pub returns-then-place-entry : goal.returns-then-place-entry
 returns-then-place-entry c = no_place _ _ _ _ _ (told c.args.self.now) c.args.location c.if-location-self.false c.args.place c.if-place-entry.true
 
-pub overflow-add-result : goal.overflow-add-result
-overflow-add-result c = omega (arith, held_fits c.args.self.now c.args.location c.if-location-self.false)
+pub overflow_add-result : goal.overflow_add-result
+overflow_add-result c = omega (arith, held_fits c.args.self.now c.args.location c.if-location-self.false)
 
 pub bounds-self-entry : goal.bounds-self-entry
 bounds-self-entry c = omega (arith, held_fits c.args.self.now c.args.location c.if-location-self.false)

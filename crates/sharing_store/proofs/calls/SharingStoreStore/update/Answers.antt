@@ -21,8 +21,8 @@ returns-then-place-entry c =
     let k = c.if-place-entry.true in
     record { answer = no_place_update _ _ _ _ _ t c.args.location h c.args.place k; state = no_place_updated _ _ _ _ _ t c.args.location h c.args.place k c.args.closure; lone = λ _. refl }
 
-pub overflow-add-at : goal.overflow-add-at
-overflow-add-at c = omega (arith, own_fits c.args.self.now c.args.location c.if-location-self.false)
+pub overflow_add-at : goal.overflow_add-at
+overflow_add-at c = omega (arith, own_fits c.args.self.now c.args.location c.if-location-self.false)
 
 pub bounds-self-at : goal.bounds-self-at
 bounds-self-at c = omega (arith, own_fits c.args.self.now c.args.location c.if-location-self.false, c.free.ensures.counts.method_count_is)

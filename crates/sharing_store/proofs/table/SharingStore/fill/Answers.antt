@@ -9,8 +9,8 @@ use Rattle.sharing_store.proofs.Walks.{fills_none}
 use Rattle.sharing_store.proofs.Fillings.{from_before, entries_only, filled_now, stays_filled, sound_after, laid_after, objects_after}
 use Rattle.sharing_store.proofs.table.SharingStore.fill.Goals as goal
 
-pub copy-methods-requires : goal.copy-methods-requires
-copy-methods-requires c =
+pub copy_methods-requires : goal.copy_methods-requires
+copy_methods-requires c =
     let s = c.args.self.now in
     let es = s.objects.now in
     let n = s.object_count in
@@ -21,10 +21,10 @@ copy-methods-requires c =
       within = omega arith;
     }
 
-pub invariant-of-self : goal.invariant-of-self
-invariant-of-self c =
+pub invariant_of-self : goal.invariant_of-self
+invariant_of-self c =
     let s = c.args.self.now in
-    let w = c.copy-methods.ensures in
+    let w = c.copy_methods.ensures in
     let es = s.objects.now in
     let n = s.object_count in
     let l = c.args.location in
@@ -58,7 +58,7 @@ invariant-of-self c =
 pub returns-then-entry : goal.returns-then-entry
 returns-then-entry c =
     let s = c.args.self.now in
-    let w = c.copy-methods.ensures in
+    let w = c.copy_methods.ensures in
     let es = s.objects.now in
     let ms = s.methods.now in
     let n = s.object_count in

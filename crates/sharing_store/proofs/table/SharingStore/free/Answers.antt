@@ -17,8 +17,8 @@ loop-at-smaller c = falls c.fill.new.self c.loop-at.self c.fill-in-loop-at.new.s
 pub loop-at-preserved : goal.loop-at-preserved
 loop-at-preserved c = walk_goes_on c.fill.new.self c.loop-at.self c.fill-in-loop-at.new.self c.args.location c.loop-at.at c.loop-at.invariant c.fill-in-loop-at.ensures c.loop-at-test.true
 
-pub invariant-of-self : goal.invariant-of-self
-invariant-of-self c =
+pub invariant_of-self : goal.invariant_of-self
+invariant_of-self c =
     let s = c.fill.new.self in
     let t = c.loop-at.self in
     let l = c.args.location in

@@ -18,7 +18,7 @@ pub returns : goal.returns
 returns g c =
     let e : Meaning = layer_meaning g.S.Store.meaning c.args.self.now in
     let x = c.args.token in
-    let z : Meaning = layer_meaning g.S.Store.meaning c.undo-trial.new.self in
+    let z : Meaning = layer_meaning g.S.Store.meaning c.undo_trial.new.self in
     let a : Ok tt ≡ back_result e.trial x = search rules in
     let s : z ≡ put_back e x.number = search rules in
     record { answer = a; state = s; back = λ table m k calls was is. back table m k calls was e is x _ a z s }

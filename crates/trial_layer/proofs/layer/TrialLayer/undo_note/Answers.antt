@@ -6,4 +6,4 @@ use Rattle.trial_layer.proofs.layer.TrialLayer.undo_note.Goals as goal
 pub returns : goal.returns
 returns g c =
     let t = c.args.self.now in
-    record { state = undo_one (g.S.Store.meaning t.below) _ (trial_of t.book) (written t.book) c.args.place c.note-at-old.result c.note-at-old.ensures c.update.ensures.state; book = search rules }
+    record { state = undo_one (g.S.Store.meaning t.below) _ (trial_of t.book) (written t.book) c.args.place c.note_at-old.result c.note_at-old.ensures c.update.ensures.state; book = search rules }
