@@ -48,12 +48,12 @@ pub check_term-returns-in-Some : goal.check_term-returns-in-Some
 check_term-returns-in-Some t c =
     record { place = search rules; walks = λ ws. refuses c.args.rows.now c.args.at _ ws c.if-at-rows.false _ (sym c.fault_of_term.ensures ∙ c.in-Some.is) }
 
-pub check_term-returns-in_err-body : goal.check_term-returns-in_err-body
-check_term-returns-in_err-body t c =
+pub check_term-returns-in_err-body-in-5 : goal.check_term-returns-in_err-body-in-5
+check_term-returns-in_err-body-in-5 t c =
     let p = err_from_is_err_and c.from_residual.result c.from_residual.ensures.1 in
     rw (p.1, p.2) (record {
-      place = c.in_err-body.ensures.place;
-      walks = λ ws. passes c.args.rows.now c.args.at _ ws c.if-at-rows.false (sym c.fault_of_term.ensures ∙ c.in_default.is) _ (parts_two (row_at c.args.rows.now c.args.at) _ _ c.in-5.is) ∙ c.in_err-body.ensures.walks _;
+      place = c.in_err-body-in-5.ensures.place;
+      walks = λ ws. passes c.args.rows.now c.args.at _ ws c.if-at-rows.false (sym c.fault_of_term.ensures ∙ c.in_default.is) _ (parts_two (row_at c.args.rows.now c.args.at) _ _ c.in-5.is) ∙ c.in_err-body-in-5.ensures.walks _;
     })
 
 pub check_term-returns-in-3 : goal.check_term-returns-in-3
@@ -70,11 +70,11 @@ check_term-returns-in-4 t c =
       walks = λ ws. passes c.args.rows.now c.args.at _ ws c.if-at-rows.false (sym c.fault_of_term.ensures ∙ c.in_default.is) _ (parts_one (row_at c.args.rows.now c.args.at) _ _ c.in-4.is) ∙ c.check_term.ensures.walks ws;
     }
 
-pub check_term-returns-in_ok-body : goal.check_term-returns-in_ok-body
-check_term-returns-in_ok-body t c =
+pub check_term-returns-in_ok-body-in-5 : goal.check_term-returns-in_ok-body-in-5
+check_term-returns-in_ok-body-in-5 t c =
     record {
       place = search rules;
-      walks = λ ws. passes c.args.rows.now c.args.at _ ws c.if-at-rows.false (sym c.fault_of_term.ensures ∙ c.in_default.is) _ (parts_two (row_at c.args.rows.now c.args.at) _ _ c.in-5.is) ∙ c.in_ok-body.ensures.walks _ ∙ c.check_term-in-5-2.ensures.walks ws;
+      walks = λ ws. passes c.args.rows.now c.args.at _ ws c.if-at-rows.false (sym c.fault_of_term.ensures ∙ c.in_default.is) _ (parts_two (row_at c.args.rows.now c.args.at) _ _ c.in-5.is) ∙ c.in_ok-body-in-5.ensures.walks _ ∙ c.check_term-in-5-2.ensures.walks ws;
     }
 
 pub check_term-returns-in_default-kind : goal.check_term-returns-in_default-kind
