@@ -1,6 +1,6 @@
 //! The flat store's two areas.
 ghost use Rattle.std.specs.Prelude.{◌≡◌, ℕ, ◌≤◌, true, length};
-ghost use Rattle.flat_store.specs.Layout.{laid-out};
+ghost use Rattle.flat_store.specs.Layout.{laid_out as areas_laid_out};
 
 use store::closures::Method;
 use store::layout::Span;
@@ -21,5 +21,5 @@ pub struct FlatStore<'a> {
     ghost methods_small: { method_limit ≤ 1048576 },
     ghost objects_fit: { object_count ≤ object_limit },
     ghost methods_fit: { method_count ≤ method_limit },
-    ghost laid_out: { laid-out objects.now object_count method_count ≡ true },
+    ghost laid_out: { areas_laid_out objects.now object_count method_count ≡ true },
 }

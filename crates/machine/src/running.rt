@@ -34,7 +34,7 @@ fn turn<S: Store>(
     left: u32,
 ) -> Result<(), Stop>
     requires { Sound (state_at registers.old cells.old frames.old) }
-    ensures { turn_of result registers.new cells.new frames.new (meaning store.new) ≡ turn left (text_of code.now) (state_at registers.old cells.old frames.old) (meaning store.old) }
+    ensures { turn_of result registers.new cells.new frames.new (S.meaning store.new) ≡ turn left (text_of code.now) (state_at registers.old cells.old frames.old) (S.meaning store.old) }
 {
     let redex = settle(registers, cells, frames, code)?;
     let action = decide(code, store, redex)?;
@@ -52,7 +52,7 @@ impl<'a> Machine<'a> {
     /// Runs until something stops it, on a copy of the registers that stays close at hand.
     fn work<S: Store>(&mut self, code: &Code<'_>, store: &mut S, n: u32) -> Stop
         requires { Sound (state_of self.old) }
-        ensures { ran_of result self.new (meaning store.new) ≡ run_for n (text_of code.now) (state_of self.old) (meaning store.old) }
+        ensures { ran_of result self.new (S.meaning store.new) ≡ run_for n (text_of code.now) (state_of self.old) (S.meaning store.old) }
     {
         let mut registers = self.registers;
         let mut left = n;
@@ -136,9 +136,9 @@ impl<'a> Machine<'a> {
 
     /// Runs the program over the used parts of the code.
     fn run_over<S: Store>(&mut self, code: &Code<'_>, store: &mut S, n: u32) -> RunAnswer
-        ensures answer { result ≡ (run_text n (text_of code.now) (state_of self.old) (meaning store.old)).answer }
-        ensures state { state_of self.new ≡ (run_text n (text_of code.now) (state_of self.old) (meaning store.old)).state }
-        ensures store { meaning store.new ≡ (run_text n (text_of code.now) (state_of self.old) (meaning store.old)).store }
+        ensures answer { result ≡ (run_text n (text_of code.now) (state_of self.old) (S.meaning store.old)).answer }
+        ensures state { state_of self.new ≡ (run_text n (text_of code.now) (state_of self.old) (S.meaning store.old)).state }
+        ensures store { S.meaning store.new ≡ (run_text n (text_of code.now) (state_of self.old) (S.meaning store.old)).store }
     {
         match self.registers.progress {
             Progress::Running => {
@@ -161,9 +161,9 @@ impl<'a> Machine<'a> {
         store: &mut S,
         n: u32,
     ) -> RunAnswer
-        ensures answer { result ≡ (run_outcome n tables.now counts (state_of self.old) (meaning store.old)).answer }
-        ensures state { state_of self.new ≡ (run_outcome n tables.now counts (state_of self.old) (meaning store.old)).state }
-        ensures store { meaning store.new ≡ (run_outcome n tables.now counts (state_of self.old) (meaning store.old)).store }
+        ensures answer { result ≡ (run_outcome n tables.now counts (state_of self.old) (S.meaning store.old)).answer }
+        ensures state { state_of self.new ≡ (run_outcome n tables.now counts (state_of self.old) (S.meaning store.old)).state }
+        ensures store { S.meaning store.new ≡ (run_outcome n tables.now counts (state_of self.old) (S.meaning store.old)).store }
     {
         match used_of(tables, counts) {
             Some(code) => self.run_over(&code, store, n),

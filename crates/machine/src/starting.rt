@@ -166,8 +166,8 @@ impl<'a> Machine<'a> {
         givens: &[Value],
         allowance: u32,
     ) -> Result<(), Refusal>
-        ensures answer { result ≡ start_result (text_of code.now) (state_of self.old) (meaning store.now) program givens.now }
-        ensures state { state_of self.new ≡ started_if (start_result (text_of code.now) (state_of self.old) (meaning store.now) program givens.now) (state_of self.old) (begun (state_of self.old) program givens.now allowance) }
+        ensures answer { result ≡ start_result (text_of code.now) (state_of self.old) (S.meaning store.now) program givens.now }
+        ensures state { state_of self.new ≡ started_if (start_result (text_of code.now) (state_of self.old) (S.meaning store.now) program givens.now) (state_of self.old) (begun (state_of self.old) program givens.now allowance) }
     {
         if let Progress::Running = self.registers.progress {
             return Err(Refusal::Running);
@@ -189,8 +189,8 @@ impl<'a> Machine<'a> {
         givens: &[Value],
         allowance: u32,
     ) -> Result<(), Refusal>
-        ensures answer { result ≡ start_answer tables.now counts (state_of self.old) (meaning store.now) program givens.now }
-        ensures state { state_of self.new ≡ start_state tables.now counts (state_of self.old) (meaning store.now) program givens.now allowance }
+        ensures answer { result ≡ start_answer tables.now counts (state_of self.old) (S.meaning store.now) program givens.now }
+        ensures state { state_of self.new ≡ start_state tables.now counts (state_of self.old) (S.meaning store.now) program givens.now allowance }
     {
         match used_of(tables, counts) {
             None => Err(Refusal::CountOutside),

@@ -13,7 +13,7 @@ use store::store::Store;
 
 /// What is to be done about a redex, but for the limits.
 pub fn decide<S: Store>(code: &Code<'_>, store: &S, redex: Redex) -> Result<Action, Fault>
-    ensures { result ≡ decided (text_of code.now) (meaning store.now) redex }
+    ensures { result ≡ decided (text_of code.now) (S.meaning store.now) redex }
 {
     match redex {
         Redex::Object { first, count } => {
@@ -55,7 +55,7 @@ pub fn decide<S: Store>(code: &Code<'_>, store: &S, redex: Redex) -> Result<Acti
 
 /// The method that a select enters.
 fn decide_select<S: Store>(store: &S, location: u32, label: u16) -> Result<Action, Fault>
-    ensures { result ≡ by_store (find_in (meaning store.now) location label) (λ o. labelled o (selects_at (meaning store.now) location)) }
+    ensures { result ≡ by_store (find_in (S.meaning store.now) location label) (λ o. labelled o (selects_at (S.meaning store.now) location)) }
 {
     match store.find(location, label)? {
         Some(place) => {

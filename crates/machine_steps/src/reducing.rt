@@ -103,7 +103,7 @@ pub fn act<S: Store>(
 ) -> Result<(), Fault>
     requires ready { Ready (state_at registers.old cells.old frames.old) }
     requires stands { Stands (text_of code.now) action }
-    ensures { move_of result registers.new cells.new frames.new (meaning store.new) ≡ acted (text_of code.now) (state_at registers.old cells.old frames.old) (meaning store.old) action }
+    ensures { move_of result registers.new cells.new frames.new (S.meaning store.new) ≡ acted (text_of code.now) (state_at registers.old cells.old frames.old) (S.meaning store.old) action }
 {
     let env = registers.at.env;
     let report = registers.report;

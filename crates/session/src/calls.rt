@@ -49,7 +49,7 @@ impl<'a, S: Store> Session<'a, S> {
             (λ n. Compiled rows.now givens n self.old.tables self.old.counts self.new.tables self.new.counts)
             (λ _. Untouched self.old.tables self.old.counts self.new.tables self.new.counts) }
         ensures machine { state_of self.new.machine ≡ state_of self.old.machine }
-        ensures store { meaning self.new.store ≡ meaning self.old.store }
+        ensures store { S.meaning self.new.store ≡ S.meaning self.old.store }
         ensures step { Whole S.Store.meaning self.old → Step S.Store.meaning (call.compile rows.now givens) self.old result self.new }
     {
         compile(rows, givens, &mut self.tables, &mut self.counts)
@@ -57,11 +57,11 @@ impl<'a, S: Store> Session<'a, S> {
 
     /// Starts a program with its givens and an allowance of reductions.
     pub fn start(&mut self, program: u32, givens: &[Value], allowance: u32) -> Result<(), Refusal>
-        ensures answer { result ≡ start_answer self.old.tables self.old.counts (state_of self.old.machine) (meaning self.old.store) program givens.now }
-        ensures state { state_of self.new.machine ≡ start_state self.old.tables self.old.counts (state_of self.old.machine) (meaning self.old.store) program givens.now allowance }
+        ensures answer { result ≡ start_answer self.old.tables self.old.counts (state_of self.old.machine) (S.meaning self.old.store) program givens.now }
+        ensures state { state_of self.new.machine ≡ start_state self.old.tables self.old.counts (state_of self.old.machine) (S.meaning self.old.store) program givens.now allowance }
         ensures tables { self.new.tables ≡ self.old.tables }
         ensures counts { self.new.counts ≡ self.old.counts }
-        ensures store { meaning self.new.store ≡ meaning self.old.store }
+        ensures store { S.meaning self.new.store ≡ S.meaning self.old.store }
         ensures step { Whole S.Store.meaning self.old → Step S.Store.meaning (call.start program givens.now allowance) self.old result self.new }
     {
         self.machine.start(
@@ -76,9 +76,9 @@ impl<'a, S: Store> Session<'a, S> {
 
     /// Runs the program for at most `n` reductions.
     pub fn run(&mut self, n: u32) -> RunAnswer
-        ensures answer { result ≡ (run_outcome n self.old.tables self.old.counts (state_of self.old.machine) (meaning self.old.store)).answer }
-        ensures state { state_of self.new.machine ≡ (run_outcome n self.old.tables self.old.counts (state_of self.old.machine) (meaning self.old.store)).state }
-        ensures store { meaning self.new.store ≡ (run_outcome n self.old.tables self.old.counts (state_of self.old.machine) (meaning self.old.store)).store }
+        ensures answer { result ≡ (run_outcome n self.old.tables self.old.counts (state_of self.old.machine) (S.meaning self.old.store)).answer }
+        ensures state { state_of self.new.machine ≡ (run_outcome n self.old.tables self.old.counts (state_of self.old.machine) (S.meaning self.old.store)).state }
+        ensures store { S.meaning self.new.store ≡ (run_outcome n self.old.tables self.old.counts (state_of self.old.machine) (S.meaning self.old.store)).store }
         ensures tables { self.new.tables ≡ self.old.tables }
         ensures counts { self.new.counts ≡ self.old.counts }
         ensures step { Whole S.Store.meaning self.old → Step S.Store.meaning (call.run n) self.old result self.new }

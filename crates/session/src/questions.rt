@@ -42,21 +42,21 @@ impl<'a, S: Store> Session<'a, S> {
 
     /// How many objects there are.
     pub fn object_count(&self) -> u32
-        ensures { result ≡ length (meaning self.now.store).objects }
+        ensures { result ≡ length (S.meaning self.now.store).objects }
     {
         self.store.object_count()
     }
 
     /// How many methods the object at a location has.
     pub fn size(&self, location: u32) -> Result<u32, StoreFault>
-        ensures { result ≡ size_of (meaning self.now.store) location }
+        ensures { result ≡ size_of (S.meaning self.now.store) location }
     {
         self.store.size(location)
     }
 
     /// The label and the closure at a place of the object at a location.
     pub fn method_at(&self, location: u32, place: u32) -> Result<Method, StoreFault>
-        ensures { result ≡ method_at (meaning self.now.store) location place }
+        ensures { result ≡ method_at (S.meaning self.now.store) location place }
     {
         self.store.method_at(location, place)
     }

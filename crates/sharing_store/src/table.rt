@@ -1,6 +1,6 @@
 //! The sharing store's two areas.
 ghost use Rattle.std.specs.Prelude.{◌≡◌, ℕ, ◌≤◌, true, length};
-ghost use Rattle.sharing_store.specs.Views.{laid-out, sound};
+ghost use Rattle.sharing_store.specs.Views.{laid_out as areas_laid_out, sound};
 
 use crate::entries::SharedEntry;
 use store::closures::Method;
@@ -21,6 +21,6 @@ pub struct SharingStore<'a> {
     ghost methods_small: { method_limit ≤ 1048576 },
     ghost objects_fit: { object_count ≤ object_limit },
     ghost methods_fit: { method_count ≤ method_limit },
-    ghost laid_out: { laid-out objects.now object_count method_count ≡ true },
+    ghost laid_out: { areas_laid_out objects.now object_count method_count ≡ true },
     ghost shares: { sound objects.now object_count ≡ true },
 }

@@ -63,8 +63,8 @@ fn lesser(a: usize, b: usize) -> usize
 
 /// Makes one call.
 pub fn perform<S: Store>(store: &mut S, table: &[MethodEntry], call: StoreCall) -> StoreAnswer
-    ensures answer { result ≡ answer_to table.now (meaning store.old) call }
-    ensures state { meaning store.new ≡ meaning_after table.now (meaning store.old) call }
+    ensures answer { result ≡ answer_to table.now (S.meaning store.old) call }
+    ensures state { S.meaning store.new ≡ meaning_after table.now (S.meaning store.old) call }
 {
     match call {
         StoreCall::ObjectCount => StoreAnswer::Number(store.object_count()),
@@ -110,10 +110,10 @@ pub fn perform_all<S: Store>(
     answers: &mut [StoreAnswer],
 ) -> usize
     ensures count { result ≡ min (length calls.now) (length answers.old) }
-    ensures answers { answers.new ≡ answers_to table.now (meaning store.old) (take result calls.now) ++ drop result answers.old }
-    ensures state { meaning store.new ≡ meaning_after_all table.now (meaning store.old) (take result calls.now) }
-    ensures lasting { Lasts (meaning store.old) (meaning store.new) }
-    ensures alike { (m : Meaning) → Alike m (meaning store.old) → (answers_to table.now m (take result calls.now) ≡ take result answers.new) × Alike (meaning_after_all table.now m (take result calls.now)) (meaning store.new) }
+    ensures answers { answers.new ≡ answers_to table.now (S.meaning store.old) (take result calls.now) ++ drop result answers.old }
+    ensures state { S.meaning store.new ≡ meaning_after_all table.now (S.meaning store.old) (take result calls.now) }
+    ensures lasting { Lasts (S.meaning store.old) (S.meaning store.new) }
+    ensures alike { (m : Meaning) → Alike m (S.meaning store.old) → (answers_to table.now m (take result calls.now) ≡ take result answers.new) × Alike (meaning_after_all table.now m (take result calls.now)) (S.meaning store.new) }
 {
     let count = lesser(calls.len(), answers.len());
     for i in 0..count {
