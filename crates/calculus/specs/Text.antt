@@ -1,5 +1,5 @@
 -- The used parts of the three tables of a code area.
-use Rattle.std.specs.Prelude.{ℕ, Bool, ◌&&◌, List, [], ◌++◌, length, take, nat_le}
+use Rattle.std.specs.Prelude.{Bool, ◌&&◌, List, ◌++◌, length, take, nat_le}
 use Rattle.calculus.specs.declared.code.ListEntry.{ListEntry}
 use Rattle.calculus.specs.declared.code.MethodEntry.{MethodEntry}
 use Rattle.calculus.specs.declared.code.Operation.{Operation}

@@ -1,4 +1,4 @@
-use Rattle.std.proofs.Common.{◌≡◌, Some, None, sym, ap, ◌∙◌, arith}
+use Rattle.std.proofs.Common.{Some, ap, ◌∙◌, arith}
 use Rattle.calculus.proofs.Places.{nth_in, nth_past}
 use Rattle.calculus.proofs.lookup.entry_at.Goals as goal
 

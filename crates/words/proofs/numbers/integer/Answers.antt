@@ -1,4 +1,4 @@
-use Rattle.std.proofs.Common.{◌≡◌, sym, ◌∙◌, arith}
+use Rattle.std.proofs.Common.{sym, ◌∙◌, arith}
 use Rattle.words.proofs.Decimal.{minus_some, minus_none}
 use Rattle.words.proofs.numbers.integer.Goals as goal
 

@@ -1,4 +1,4 @@
-use Rattle.std.proofs.Common.{◌≡◌, length, take, Some, None, sym, ap, ◌∙◌, arith}
+use Rattle.std.proofs.Common.{take, Some, sym, ap, ◌∙◌, arith}
 use Rattle.std.proofs.lemmas.List.{length-take, get_or-take}
 use Rattle.calculus.proofs.Places.{nth_in, nth_past}
 use Rattle.calculus.proofs.stack.Stack.get.Goals as goal

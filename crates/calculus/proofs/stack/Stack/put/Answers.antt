@@ -1,5 +1,5 @@
-use Rattle.std.proofs.Common.{◌≡◌, ◌+◌, ◌-◌, ◌<◌, ◌≤◌, List, [], ◌∷◌, ◌++◌, reverse, length, take, set, sym, ap, ◌∙◌, arith, rules}
-use Rattle.std.proofs.lemmas.List.{take_more_set, reverse-append, length-set}
+use Rattle.std.proofs.Common.{◌≡◌, ◌+◌, ◌<◌, [], ◌∷◌, ◌++◌, reverse, length, take, set, ap, ◌∙◌, arith, rules}
+use Rattle.std.proofs.lemmas.List.{take_more_set, reverse-append}
 use Rattle.calculus.proofs.Places.{clipped}
 use Rattle.calculus.proofs.stack.Stack.put.Goals as goal
 
