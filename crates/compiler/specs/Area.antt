@@ -1,5 +1,5 @@
 -- Tables and counts as one, and the single writes.
-use Rattle.std.specs.Prelude.{ℕ, ◌+◌, List, set, slice_set}
+use Rattle.std.specs.Prelude.{ℕ, ◌+◌, List, slice_set}
 use Rattle.calculus.specs.declared.code.ListEntry.{ListEntry}
 use Rattle.calculus.specs.declared.code.MethodEntry.{MethodEntry}
 use Rattle.calculus.specs.declared.code.Operation.{Operation}

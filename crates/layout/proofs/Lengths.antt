@@ -5,7 +5,7 @@ use Rattle.calculus.specs.declared.values.Value.TheVariants.{Figure, Location}
 use Rattle.calculus.specs.Terms.{Term, var, val, object, select, update, clone, bind, Methods, nil, method}
 use Rattle.calculus.specs.Rows.{many}
 use Rattle.calculus.specs.Sizes.{bodies, bodies_all, nodes, nodes_all, entries, entries_all}
-use Rattle.calculus.specs.Layout.{spine, lists, lists_all, own, table, table_all, contents_of, flat, layout}
+use Rattle.calculus.specs.Layout.{spine, lists, lists_all, own, table, table_all, contents_of, flat}
 use Rattle.layout.specs.Laws.{LayoutSizes}
 
 pub flat_append : (xs ys : List (List Operation)) → flat (xs ++ ys) ≡ flat xs ++ flat ys

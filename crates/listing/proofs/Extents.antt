@@ -5,7 +5,6 @@ use Rattle.std.proofs.lemmas.List.{at_drop_more, at_drop_all}
 use Rattle.calculus.specs.declared.code.ListEntry.{ListEntry}
 use Rattle.calculus.specs.declared.code.Operation.{Operation}
 use Rattle.calculus.specs.Places.{nth, if_some}
-use Rattle.calculus.specs.Sizes.{bodies}
 use Rattle.calculus.specs.Text.{joined}
 use Rattle.calculus.specs.Layout.{spine, lists, contents_of, compiled}
 use Rattle.layout.proofs.Lengths.{lists_length}

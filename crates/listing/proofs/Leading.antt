@@ -1,5 +1,5 @@
 -- A list that stands for a term is listed back as the term's rows.
-use Rattle.std.proofs.Common.{◌≡◌, ℕ, zero, suc, ◌+◌, ◌-◌, ◌*◌, ◌<◌, ◌≤◌, cond, eqb, ltb, List, [], ◌∷◌, ◌++◌, map, length, pos, Some, Ok, Err, Result, sym, refl, ap, ◌∙◌, subst, add-zero, arith, le-ltb, lt-ltb, ne_eqb}
+use Rattle.std.proofs.Common.{◌≡◌, ℕ, zero, suc, ◌+◌, ◌*◌, ◌<◌, ◌≤◌, cond, eqb, ltb, List, [], ◌∷◌, ◌++◌, map, length, pos, Some, Ok, Err, Result, sym, refl, ap, ◌∙◌, subst, add-zero, arith, le-ltb, lt-ltb, ne_eqb}
 use lib.ListN.{length-map}
 use Rattle.std.proofs.lemmas.List.{length-append, append_assoc, append-nil}
 use Rattle.std.proofs.lemmas.Bool.{cond-true, cond-false}
@@ -22,7 +22,7 @@ use Rattle.listing.specs.declared.pending.Pending.{Pending}
 use Rattle.listing.specs.declared.pending.Step.{Step}
 use Rattle.listing.specs.declared.pending.Step.TheVariants as step
 use Rattle.listing.specs.Steps.{step_at, step_in, step_of, method_step, method_row}
-use Rattle.listing.specs.Listing.{State, Room, then, put, fresh, begun, carried, going, walked, listed_whole, listed}
+use Rattle.listing.specs.Listing.{State, Room, then, put, fresh, begun, carried, going, walked, listed_whole}
 use Rattle.listing.specs.Cost.{cost, load}
 use Rattle.listing.specs.Nesting.{nesting, nesting_all}
 use Rattle.listing.specs.Laws.{ListsBack, RoundTrip}

@@ -20,7 +20,7 @@ use Rattle.calculus.specs.Standing.{Listed, Named, CodeAt, RestAt, BodiesAt, Pro
 use Rattle.listing.specs.declared.pending.Pending.{Pending}
 use Rattle.listing.specs.declared.pending.Step.TheVariants as step
 use Rattle.listing.specs.Steps.{row_of, proper, row_at, method_row, method_step, step_at, step_of}
-use Rattle.listing.specs.Listing.{State, Room, then, put, written, pushed, fresh, begun_from, begun, carried, going, walked, listed_whole, listed}
+use Rattle.listing.specs.Listing.{State, Room, then, put, written, pushed, fresh, begun_from, begun, carried, going, walked, listed_whole}
 use Rattle.listing.proofs.Costs.{put_longer, written_longer}
 use Rattle.listing.proofs.Spines.{Spine, Entries, own_rows, body_rows, rows_split, own_written, at}
 use Rattle.listing.specs.Laws.{ListsOnly}

@@ -1,5 +1,5 @@
 -- A list that stands for a term, read from its last operation, and its own rows.
-use Rattle.std.proofs.Common.{◌≡◌, ℕ, suc, ◌+◌, ◌-◌, ◌<◌, ◌≤◌, true, false, cond, ◌&&◌, eqb, ltb, List, [], ◌∷◌, ◌++◌, length, pos, Some, Ok, Err, sym, refl, ap, ◌∙◌, subst, add-zero, arith, lt-ltb, ne_eqb, le-leb}
+use Rattle.std.proofs.Common.{◌≡◌, ℕ, suc, ◌+◌, ◌<◌, ◌≤◌, true, false, cond, ◌&&◌, eqb, ltb, List, [], ◌∷◌, ◌++◌, length, pos, Some, Ok, Err, sym, refl, ap, ◌∙◌, subst, add-zero, arith, lt-ltb, ne_eqb, le-leb}
 use Rattle.std.proofs.lemmas.List.{length-append, append_assoc}
 use Rattle.std.proofs.lemmas.Bool.{and_from, cond-true, cond-false}
 use Rattle.calculus.specs.declared.code.Operation.{Operation}

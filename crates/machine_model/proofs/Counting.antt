@@ -1,5 +1,5 @@
 -- What a run does to the counts.
-use Rattle.std.proofs.Common.{◌≡◌, ℕ, zero, suc, ◌+◌, ◌-◌, ◌*◌, ◌<◌, ◌≤◌, Bool, true, false, cond, eqb, ltb, leb, List, [], ◌∷◌, ◌++◌, length, Some, None, Ok, Err, Option, Result, sym, refl, ap, ◌∙◌, subst, zero-add, arith}
+use Rattle.std.proofs.Common.{◌≡◌, ℕ, zero, suc, ◌+◌, ◌<◌, ◌≤◌, Bool, true, false, cond, eqb, List, [], ◌∷◌, length, Ok, Err, Result, sym, refl, ap, ◌∙◌, subst, zero-add, arith}
 use borrow.Author.Tests.{eqb-false}
 use Rattle.calculus.specs.Text.{Text}
 use Rattle.calculus.specs.declared.values.Value.{Value}
@@ -11,15 +11,14 @@ use Rattle.machine_model.specs.declared.answers.Stop.{Stop}
 use Rattle.machine_model.specs.declared.answers.Stop.TheVariants as stop
 use Rattle.machine_model.specs.declared.state.Frame.{Frame}
 use Rattle.machine_model.specs.declared.state.Report.{Report}
-use Rattle.machine_model.specs.declared.steps.Redex.{Redex}
 use Rattle.machine_model.specs.declared.steps.Action.{Action}
 use Rattle.machine_model.specs.declared.steps.Action.TheVariants.{Make, Call, Put, Copied, Bind}
 use Rattle.machine_model.specs.declared.steps.Due.{Due}
 use Rattle.machine_model.specs.declared.steps.Due.TheVariants.{Fill, Return, Done, Astray, Reduce}
 use Rattle.machine_model.specs.State.{State, due}
-use Rattle.machine_model.specs.Settle.{filled, returned_to, vacant, slack, on_due, settled_for, settled, rest, reductions, owing, promised, Sound}
+use Rattle.machine_model.specs.Settle.{filled, returned_to, slack, on_due, settled_for, settled, rest, reductions, owing, promised, Sound}
 use Rattle.machine_model.specs.Reduce.{Move, decided, acted, located, replaced, room_to_enter, if_ok, entered, enters, entries_at, object_more, select_more, update_more, clone_more, let_more}
-use Rattle.machine_model.specs.Run.{Turn, turned, halted, or_stop, unless_stopped, allowed, at_rest, turn, Ran, followed, followed_by, run_for}
+use Rattle.machine_model.specs.Run.{Turn, turned, halted, or_stop, unless_stopped, allowed, at_rest, turn, Ran, followed, run_for}
 use Rattle.machine_model.proofs.Settles.{due_fills_vacant}
 use Rattle.machine_model.proofs.Runs.{turn_none}
 use Rattle.machine_model.proofs.Resuming.{turn_never}

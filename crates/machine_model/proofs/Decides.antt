@@ -1,5 +1,5 @@
 -- What a decision makes sure of.
-use Rattle.std.proofs.Common.{◌≡◌, ℕ, ◌+◌, ◌≤◌, Bool, true, false, cond, leb, length, Some, None, Ok, Err, Option, Result, sym, refl, subst, arith, leb-true}
+use Rattle.std.proofs.Common.{◌≡◌, ℕ, ◌+◌, Bool, true, false, cond, leb, length, Some, None, Ok, Err, Option, Result, sym, refl, subst, leb-true}
 use Rattle.calculus.specs.Text.{Text}
 use Rattle.calculus.specs.declared.values.Value.TheVariants as value
 use Rattle.store.specs.declared.faults.StoreFault.{StoreFault}
@@ -7,7 +7,7 @@ use Rattle.store.specs.Meaning.{Meaning, size_of, find_in, method_at}
 use Rattle.machine_model.specs.declared.answers.Fault.{Fault}
 use Rattle.machine_model.specs.declared.answers.Fault.TheVariants as fault
 use Rattle.machine_model.specs.declared.steps.Action.{Action}
-use Rattle.machine_model.specs.declared.steps.Action.TheVariants.{Make, Call, Put, Copied, Bind}
+use Rattle.machine_model.specs.declared.steps.Action.TheVariants.{Make, Put, Copied}
 use Rattle.machine_model.specs.declared.steps.Redex.{Redex}
 use Rattle.machine_model.specs.declared.steps.Redex.TheVariants as redex
 use Rattle.machine_model.specs.Reduce.{by_store, labelled, selects_at, decided, Stands}

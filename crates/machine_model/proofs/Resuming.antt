@@ -1,5 +1,5 @@
 -- Settled machines rest, and a paused run goes on as one.
-use Rattle.std.proofs.Common.{◌≡◌, ℕ, zero, suc, ◌+◌, ◌-◌, ◌<◌, Bool, true, false, cond, eqb, ltb, leb, List, [], ◌∷◌, length, Ok, Err, Result, sym, refl, ap, ◌∙◌, suc-add, zero-add, arith, ne_eqb}
+use Rattle.std.proofs.Common.{◌≡◌, ℕ, zero, suc, ◌+◌, Bool, true, false, cond, eqb, List, [], ◌∷◌, length, Ok, Err, Result, sym, refl, ap, ◌∙◌, suc-add, zero-add, arith, ne_eqb}
 use Rattle.std.proofs.lemmas.Bool.{cond-false}
 use Rattle.store.specs.Meaning.{Meaning}
 use Rattle.machine_model.specs.declared.steps.Action.{Action}
@@ -10,12 +10,11 @@ use Rattle.machine_model.specs.declared.answers.Stop.TheVariants as stop
 use Rattle.machine_model.specs.declared.steps.Due.{Due}
 use Rattle.machine_model.specs.declared.steps.Due.TheVariants.{Fill, Return, Done, Astray, Reduce}
 use Rattle.machine_model.specs.declared.state.Frame.{Frame}
-use Rattle.machine_model.specs.declared.steps.Redex.{Redex}
 use Rattle.calculus.specs.Text.{Text}
 use Rattle.machine_model.specs.State.{State, due}
-use Rattle.machine_model.specs.Settle.{filled, returned_to, vacant, slack, silent, on_due, settled_for, settled, rest}
-use Rattle.machine_model.specs.Reduce.{Move, decided, acted}
-use Rattle.machine_model.specs.Run.{Turn, turned, halted, or_stop, unless_stopped, allowed, at_rest, turn, Ran, followed, followed_by, run_for}
+use Rattle.machine_model.specs.Settle.{filled, returned_to, slack, silent, on_due, settled_for, settled, rest}
+use Rattle.machine_model.specs.Reduce.{decided, acted}
+use Rattle.machine_model.specs.Run.{Turn, turned, halted, or_stop, unless_stopped, allowed, at_rest, turn, followed, followed_by, run_for}
 use Rattle.machine_model.specs.Laws.{Rests}
 use Rattle.machine_model.proofs.Settles.{settled_rest, due_fills_vacant, due_returns_not}
 

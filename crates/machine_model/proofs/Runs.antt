@@ -1,9 +1,8 @@
 -- One turn of a run.
-use Rattle.std.proofs.Common.{◌≡◌, ℕ, zero, suc, ◌-◌, ◌<◌, Bool, true, false, cond, Ok, Err, Result, sym, refl, ap, ◌∙◌, sub-one, arith, ne_eqb}
+use Rattle.std.proofs.Common.{◌≡◌, ℕ, zero, suc, ◌-◌, ◌<◌, Ok, Err, Result, sym, ap, ◌∙◌, sub-one, arith, ne_eqb}
 use Rattle.std.proofs.lemmas.Bool.{cond-false}
 use Rattle.store.specs.Meaning.{Meaning}
 use Rattle.machine_model.specs.declared.steps.Action.{Action}
-use Rattle.machine_model.specs.declared.answers.Fault.{Fault}
 use Rattle.machine_model.specs.declared.answers.Stop.{Stop}
 use Rattle.machine_model.specs.declared.answers.Stop.TheVariants as stop
 use Rattle.machine_model.specs.declared.steps.Redex.{Redex}
@@ -11,7 +10,7 @@ use Rattle.calculus.specs.Text.{Text}
 use Rattle.machine_model.specs.State.{State, due}
 use Rattle.machine_model.specs.Settle.{settled, rest}
 use Rattle.machine_model.specs.Reduce.{decided, acted}
-use Rattle.machine_model.specs.Run.{Turn, turned, halted, or_stop, unless_stopped, allowed, at_rest, turn, Ran, followed, followed_by, run_for}
+use Rattle.machine_model.specs.Run.{Turn, turned, halted, or_stop, unless_stopped, allowed, turn, Ran, followed_by, run_for}
 
 -- a reduction that is allowed is the turn's
 pub turn_acts : (n : ℕ) (code : Text) (s t : State) (m : Meaning) (r : Redex) (a : Action) → Ok r ≡ rest (due code (settled code s)) → t ≡ settled code s → Ok a ≡ decided code m r → 0 < n → 0 < t.registers.allowance →

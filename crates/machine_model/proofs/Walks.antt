@@ -1,5 +1,5 @@
 -- Environments, one cell on.
-use Rattle.std.proofs.Common.{◌≡◌, ℕ, zero, suc, ◌-◌, ◌<◌, List, Some, None, Option, sym, refl, ap, ◌∙◌, sub-one, arith, ne_eqb}
+use Rattle.std.proofs.Common.{◌≡◌, ℕ, zero, suc, ◌-◌, ◌<◌, List, Some, None, sym, ap, ◌∙◌, sub-one, arith, ne_eqb}
 use Rattle.std.proofs.lemmas.Bool.{cond-false}
 use Rattle.machine_model.specs.declared.state.Cell.{Cell}
 use Rattle.calculus.specs.Places.{if_some}

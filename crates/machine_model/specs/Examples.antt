@@ -1,19 +1,18 @@
 -- The marked examples: tables as they are compiled, and what start and run make of them.
-use Rattle.std.specs.Prelude.{◌≡◌, ℕ, List, [], ◌∷◌, pos, Some, Ok}
+use Rattle.std.specs.Prelude.{◌≡◌, ℕ, List, [], ◌∷◌, pos, Ok}
 use Rattle.calculus.specs.Text.{Text}
 use Rattle.calculus.specs.declared.code.ListEntry.{ListEntry}
 use Rattle.calculus.specs.declared.code.MethodEntry.{MethodEntry}
-use Rattle.calculus.specs.declared.code.Operation.{Operation}
 use Rattle.calculus.specs.declared.code.Operation.TheVariants as op
 use Rattle.calculus.specs.declared.refusals.Place.TheVariants as place
 use Rattle.calculus.specs.declared.values.Value.{Value}
 use Rattle.calculus.specs.declared.values.Value.TheVariants.{Figure, Location}
-use Rattle.store.specs.Meaning.{Meaning, Object, no_trial}
+use Rattle.store.specs.Meaning.{Meaning, no_trial}
 use Rattle.machine_model.specs.declared.answers.Fault.TheVariants as fault
 use Rattle.machine_model.specs.declared.answers.RunAnswer.{RunAnswer}
 use Rattle.machine_model.specs.declared.answers.RunAnswer.TheVariants as run
 use Rattle.machine_model.specs.declared.state.Report.{Report}
-use Rattle.machine_model.specs.State.{State, variable}
+use Rattle.machine_model.specs.State.{State}
 use Rattle.machine_model.specs.Outcome.{Outcome, run_text}
 use Rattle.machine_model.specs.Start.{start_result, begun, unused, no_report}
 

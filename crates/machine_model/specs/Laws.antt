@@ -5,7 +5,6 @@ use Rattle.calculus.specs.declared.values.Value.{Value}
 use Rattle.store.specs.Meaning.{Meaning}
 use Rattle.machine_model.specs.declared.answers.RunAnswer.{RunAnswer}
 use Rattle.machine_model.specs.declared.answers.RunAnswer.TheVariants as run
-use Rattle.machine_model.specs.declared.state.Report.{Report}
 use Rattle.machine_model.specs.State.{State, due}
 use Rattle.machine_model.specs.Settle.{silent, settled, reductions, fits}
 use Rattle.machine_model.specs.Outcome.{run_text}

@@ -1,19 +1,14 @@
 -- The reductions, and what refuses them.
-use Rattle.std.specs.Prelude.{◌≡◌, ℕ, ◌+◌, ◌-◌, ◌^◌, ◌<◌, ◌≤◌, Bool, true, false, cond, List, [], ◌∷◌, ◌++◌, length, take, drop, Some, None, Ok, Err, Option, Result, nat_le, nat_lt}
+use Rattle.std.specs.Prelude.{ℕ, ◌+◌, ◌-◌, ◌^◌, ◌<◌, ◌≤◌, cond, List, [], ◌∷◌, ◌++◌, length, take, drop, Some, None, Ok, Err, Option, Result, nat_le, nat_lt}
 use Rattle.calculus.specs.Text.{Text}
 use Rattle.calculus.specs.declared.code.MethodEntry.{MethodEntry}
 use Rattle.calculus.specs.declared.values.Value.{Value}
 use Rattle.calculus.specs.declared.values.Value.TheVariants as value
-use Rattle.store.specs.declared.closures.Closure.{Closure}
-use Rattle.store.specs.declared.closures.Method.{Method}
 use Rattle.store.specs.declared.faults.StoreFault.{StoreFault}
 use Rattle.store.specs.Meaning.{Meaning, size_of, find_in, method_at, make_result, made_by, clone_result, cloned_by, update_result, updated}
 use Rattle.machine_model.specs.declared.answers.Fault.{Fault}
 use Rattle.machine_model.specs.declared.answers.Fault.TheVariants as fault
-use Rattle.machine_model.specs.declared.state.Cell.{Cell}
-use Rattle.machine_model.specs.declared.state.Frame.{Frame}
 use Rattle.machine_model.specs.declared.state.Report.{Report}
-use Rattle.machine_model.specs.declared.state.Registers.{Registers}
 use Rattle.machine_model.specs.declared.steps.Redex.{Redex}
 use Rattle.machine_model.specs.declared.steps.Redex.TheVariants as redex
 use Rattle.machine_model.specs.declared.steps.Action.{Action}

@@ -1,5 +1,5 @@
 -- The machine's state by its used parts, and what is next there.
-use Rattle.std.specs.Prelude.{ℕ, zero, suc, ◌+◌, ◌-◌, Bool, true, false, cond, List, [], ◌∷◌, length, Some, None, Option, ◌==◌, nat_lt}
+use Rattle.std.specs.Prelude.{ℕ, zero, suc, ◌+◌, ◌-◌, Bool, true, false, cond, List, [], ◌∷◌, Some, None, Option, ◌==◌, nat_lt}
 use Rattle.calculus.specs.Places.{nth, if_some}
 use Rattle.calculus.specs.Text.{Text}
 use Rattle.calculus.specs.declared.code.Operation.{Operation}
@@ -10,7 +10,6 @@ use Rattle.calculus.specs.declared.values.Value.TheVariants as value
 use Rattle.machine_model.specs.declared.state.Cell.{Cell}
 use Rattle.machine_model.specs.declared.state.Frame.{Frame}
 use Rattle.machine_model.specs.declared.state.Registers.{Registers}
-use Rattle.machine_model.specs.declared.steps.Redex.{Redex}
 use Rattle.machine_model.specs.declared.steps.Redex.TheVariants as redex
 use Rattle.machine_model.specs.declared.steps.Due.{Due}
 use Rattle.machine_model.specs.declared.steps.Due.TheVariants.{Fill, Return, Done, Astray, Reduce}

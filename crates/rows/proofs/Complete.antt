@@ -1,14 +1,11 @@
 -- The rows of a term that fits are accepted.
-use Rattle.std.proofs.Common.{◌≡◌, ℕ, zero, suc, ◌+◌, ◌-◌, ◌<◌, ◌≤◌, Bool, true, false, cond, not, ◌&&◌, ◌||◌, eqb, ltb, leb, ◌⊎◌, List, [], ◌∷◌, ◌++◌, map, length, ℤ, pos, negsuc, nat_abs, Some, None, Option, sym, refl, ap, ◌∙◌, subst, inl, inr, append_assoc, append-nil, arith, length-append}
+use Rattle.std.proofs.Common.{◌≡◌, ℕ, ◌+◌, ◌<◌, Bool, true, false, not, ◌&&◌, leb, List, [], ◌∷◌, ◌++◌, length, ℤ, pos, None, refl, ap, ◌∙◌, append_assoc, arith, length-append}
 use Rattle.std.proofs.lemmas.Bool.Decides.{nat_tests}
 use Rattle.calculus.specs.declared.rows.Row.{Row}
 use Rattle.calculus.specs.declared.values.Value.TheVariants.{Figure, Location}
-use Rattle.calculus.specs.declared.refusals.RowFault.{RowFault}
-use Rattle.calculus.specs.declared.refusals.RowFault.TheVariants.{Kind}
-use Rattle.calculus.specs.declared.refusals.Refusal.{Refusal}
 use Rattle.calculus.specs.Terms.{Term, var, val, object, select, update, clone, bind, Methods, nil, method}
-use Rattle.calculus.specs.Rows.{many, row, rows_of, method_rows, has, fits, fit_methods, plain}
-use Rattle.rows.specs.Verdict.{Want, a_term, a_method, term_fault, method_fault, judge, methods, parts, follows, unless, walk}
+use Rattle.calculus.specs.Rows.{many, row, rows_of, method_rows, has, fits, fit_methods}
+use Rattle.rows.specs.Verdict.{Want, a_term, a_method, term_fault, method_fault, judge, methods, follows, unless, walk}
 
 step : (r : Row) (rest : List Row) (p : ℕ) (w : Want) (ws : List Want) → judge r w ≡ None → walk (r ∷ rest) p (w ∷ ws) ≡ walk rest (p + 1) (follows r w ++ ws)
 unfolding walk

@@ -1,17 +1,16 @@
 -- The laws of the verdict.
-use Rattle.std.proofs.Common.{◌≡◌, ℕ, zero, suc, ◌+◌, ◌<◌, ◌≤◌, Bool, true, false, cond, ◌||◌, eqb, ltb, ◌↔◌, List, [], ◌∷◌, ◌++◌, length, Some, None, Ok, Err, Option, Result, sym, refl, ap, ◌∙◌, subst, append-nil, arith}
+use Rattle.std.proofs.Common.{◌≡◌, ℕ, suc, ◌+◌, Bool, true, false, ◌||◌, eqb, ltb, List, [], ◌∷◌, ◌++◌, length, Some, None, Option, Result, sym, refl, ap, ◌∙◌, subst, append-nil, arith}
 use Rattle.std.proofs.lemmas.Bool.Decides.{nat_tests}
 use Rattle.calculus.specs.declared.rows.Row.{Row}
 use Rattle.calculus.specs.declared.rows.Sizes.{Sizes}
 use Rattle.calculus.specs.declared.refusals.RowFault.{RowFault}
 use Rattle.calculus.specs.declared.refusals.RowFault.TheVariants.{Kind, Depth, MethodCount, LabelTwice, Index, Ends, Left}
 use Rattle.calculus.specs.declared.refusals.Refusal.{Refusal}
-use Rattle.calculus.specs.declared.refusals.Refusal.TheVariants.{RowCount, GivenCount, AtRow}
-use Rattle.calculus.specs.Terms.{Term}
+use Rattle.calculus.specs.declared.refusals.Refusal.TheVariants.{AtRow}
 use Rattle.calculus.specs.Sizes.{row_sizes}
 use Rattle.calculus.proofs.Sizes.{sizes_are}
 use Rattle.rows.specs.Verdict.{Want, a_term, a_method, judge, follows, unless, walk, sized, verdict}
-use Rattle.rows.specs.Laws.{Readable, Writes, Accepts, InOrder, no_row, one_row, Faulty, EndsInside, LeftOver, Because, FirstFault}
+use Rattle.rows.specs.Laws.{Readable, Accepts, InOrder, no_row, one_row, Faulty, EndsInside, LeftOver, Because, FirstFault}
 use Rattle.rows.proofs.Sound.{accepted_term}
 use Rattle.rows.proofs.Plain.{term_accepted}
 

@@ -1,13 +1,10 @@
 -- The check reads only what a row's kind uses.
-use Rattle.std.proofs.Common.{◌≡◌, ℕ, zero, suc, ◌+◌, ◌-◌, ◌<◌, ◌≤◌, Bool, true, false, cond, not, ◌&&◌, ◌||◌, eqb, ltb, leb, ◌⊎◌, List, [], ◌∷◌, ◌++◌, map, length, ℤ, pos, negsuc, nat_abs, Some, None, Option, sym, refl, ap, ◌∙◌, subst, inl, inr, append_assoc, append-nil, arith, length-append}
+use Rattle.std.proofs.Common.{◌≡◌, ℕ, ◌+◌, true, List, [], ◌∷◌, ◌++◌, map, Some, None, Option, sym, refl, ap, ◌∙◌, append-nil, arith}
 use Rattle.std.proofs.lemmas.Bool.Decides.{nat_tests}
 use Rattle.calculus.specs.declared.rows.Row.{Row}
-use Rattle.calculus.specs.declared.values.Value.TheVariants.{Figure, Location}
 use Rattle.calculus.specs.declared.refusals.RowFault.{RowFault}
-use Rattle.calculus.specs.declared.refusals.RowFault.TheVariants.{Kind}
-use Rattle.calculus.specs.declared.refusals.Refusal.{Refusal}
-use Rattle.calculus.specs.Terms.{Term, var, val, object, select, update, clone, bind, Methods, nil, method}
-use Rattle.calculus.specs.Rows.{many, row, rows_of, method_rows, has, fits, fit_methods, plain}
+use Rattle.calculus.specs.Terms.{Term}
+use Rattle.calculus.specs.Rows.{rows_of, fits, plain}
 use Rattle.rows.specs.Verdict.{Want, a_term, a_method, term_fault, method_fault, judge, methods, parts, follows, unless, walk}
 use Rattle.rows.proofs.Complete.{complete}
 

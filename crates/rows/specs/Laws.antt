@@ -1,5 +1,5 @@
 -- What the verdict means: which tables are accepted, and where a table is refused.
-use Rattle.std.specs.Prelude.{◌≡◌, ℕ, ◌<◌, ◌≤◌, Bool, true, ◌↔◌, List, [], ◌∷◌, ◌++◌, length, Some, None, Ok, Err, Result}
+use Rattle.std.specs.Prelude.{◌≡◌, ℕ, ◌≤◌, true, ◌↔◌, List, [], ◌∷◌, ◌++◌, length, Some, None, Ok, Err, Result}
 use Rattle.calculus.specs.declared.rows.Row.{Row}
 use Rattle.calculus.specs.declared.rows.Sizes.{Sizes}
 use Rattle.calculus.specs.declared.refusals.RowFault.{RowFault}

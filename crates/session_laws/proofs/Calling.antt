@@ -1,10 +1,7 @@
 -- The agreement of a session with the reference, call after call.
-use Rattle.std.proofs.Common.{◌+◌, Bool, true, false, List, [], ◌∷◌, ◌++◌, refl, arith}
+use Rattle.std.proofs.Common.{Bool, true, false, List, [], ◌∷◌, ◌++◌, refl, arith}
 use Rattle.calculus.specs.Text.{Text}
-use Rattle.trial_layer.specs.Trials.{kept}
 use Rattle.machine_model.specs.declared.state.Cell.{Cell}
-use Rattle.semantics.specs.Frames.{framed}
-use Rattle.semantics.specs.Unloading.{reference}
 use Rattle.reference.specs.Configurations.{Limits}
 use Rattle.reference.specs.States.{Reference, no_reference}
 use Rattle.reference.specs.States as states
@@ -12,7 +9,6 @@ use Rattle.reference.specs.Calls.{Call, compile, start, run, open_trial, keep, p
 use Rattle.session_laws.specs.Sessions.{Session, Leaves, no_trial_yet, new_session}
 use Rattle.session_laws.specs.Agreement.{TrialStands, Agrees}
 use Rattle.session_laws.specs.Main.{CallsAgree, Performs, no_more, next_call, Follows, SessionsAgree}
-use Rattle.session_laws.proofs.Compiling.{says}
 use Rattle.session_laws.proofs.CompileCall.{done_compile}
 use Rattle.session_laws.proofs.StartCall.{done_start}
 use Rattle.session_laws.proofs.RunCall.{done_run}

@@ -18,12 +18,10 @@ use Rattle.layout.proofs.Standing.{laid_out, program_more}
 use Rattle.rows.specs.Verdict.{verdict}
 use Rattle.compiler.specs.Compile.{placed}
 use Rattle.store.specs.Meaning.{Meaning}
-use Rattle.trial_layer.specs.Trials.{kept}
 use Rattle.machine_model.specs.declared.state.Progress.{Progress}
 use Rattle.machine_model.specs.declared.state.Progress.TheVariants.{Unused, Running, Ended}
 use Rattle.machine_model.specs.State.{State}
 use Rattle.machine_model.specs.Start.{main_mark, givens_of}
-use Rattle.semantics.specs.Frames.{framed}
 use Rattle.semantics.specs.Machine.{TreeStore}
 use Rattle.semantics.specs.Machine as tree
 use Rattle.semantics.specs.Unloading.{unload_store}

@@ -16,7 +16,6 @@ use Rattle.machine_model.specs.declared.state.Cell.{Cell}
 use Rattle.machine_model.specs.State.{State}
 use Rattle.machine_model.specs.Settle.{settled}
 use Rattle.machine_model.specs.Outcome.{place_in, answered}
-use Rattle.semantics.specs.Objects.{Store}
 use Rattle.semantics.specs.Sequences.{ends, also}
 use Rattle.semantics.specs.Reduction.{Kind, making, selecting, updating, cloning, letting, WellFormedStore}
 use Rattle.semantics.specs.Frames.{Framed, waiting, Closes, closes}

@@ -1,9 +1,8 @@
 -- The agreement over a run.
-use Rattle.std.proofs.Common.{◌≡◌, ℕ, ◌+◌, ◌≤◌, true, ◌++◌, length, Some, sym, refl, ap, ◌∙◌, subst, arith}
+use Rattle.std.proofs.Common.{◌≡◌, ℕ, ◌≤◌, true, ◌++◌, length, Some, sym, refl, ap, ◌∙◌, subst, arith}
 use Rattle.std.proofs.lemmas.Bool.{cond-true}
 use Rattle.calculus.specs.Text.{Text}
 use Rattle.store.specs.Meaning.{Meaning}
-use Rattle.trial_layer.specs.Trials.{kept}
 use Rattle.machine_model.specs.declared.answers.RunAnswer.{RunAnswer}
 use Rattle.machine_model.specs.declared.answers.RunAnswer.TheVariants as run-answer
 use Rattle.machine_model.specs.declared.answers.Stop.{Stop}
@@ -16,7 +15,7 @@ use Rattle.machine_model.specs.Run.{Ran, run_for}
 use Rattle.machine_model.specs.Outcome.{Outcome, answered, outcome_of, run_in, run_text}
 use Rattle.machine_model.specs.Outcome as outcome
 use Rattle.machine_model.proofs.Outcomes.{fitting}
-use Rattle.semantics.specs.Frames.{Framed, framed, waiting}
+use Rattle.semantics.specs.Frames.{Framed, waiting}
 use Rattle.semantics.specs.Machine.{TreeStore}
 use Rattle.semantics.specs.Unloading.{reference, unload_store}
 use Rattle.reference.specs.Configurations.{Config, config, Moves}
@@ -26,10 +25,9 @@ use Rattle.reference.specs.Calls.{run}
 use Rattle.machine_laws.specs.Running.{Runs}
 use Rattle.machine_laws.proofs.Running.{runs_stand}
 use Rattle.machine_laws.proofs.Ways.{way_progress}
-use Rattle.session_laws.specs.Sessions.{Session, with_machine, answer, Leaves}
+use Rattle.session_laws.specs.Sessions.{Session, with_machine, Leaves}
 use Rattle.session_laws.specs.Agreement.{Begun, ProgramAgrees, Agrees, TransitsIf, report_in}
 use Rattle.session_laws.specs.Main.{Answered}
-use Rattle.session_laws.proofs.Compiling.{says}
 use Rattle.session_laws.proofs.Following.{config_at, Holds, follows, ends_so}
 
 -- how a run changes the progress

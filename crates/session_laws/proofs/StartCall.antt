@@ -8,7 +8,6 @@ use Rattle.calculus.specs.declared.refusals.Refusal.{Refusal}
 use Rattle.calculus.specs.declared.refusals.Refusal.TheVariants as refusal
 use Rattle.calculus.specs.declared.values.Value.{Value}
 use Rattle.store.specs.Meaning.{Meaning, Object, Trial}
-use Rattle.trial_layer.specs.Trials.{kept}
 use Rattle.machine_model.specs.declared.state.Cell.{Cell}
 use Rattle.machine_model.specs.declared.state.Progress.{Progress}
 use Rattle.machine_model.specs.declared.state.Progress.TheVariants.{Unused, Running, Ended}
@@ -30,7 +29,6 @@ use Rattle.session_laws.specs.Agreement.{TrialStands, Known, Agrees}
 use Rattle.session_laws.specs.Main.{Answered}
 use Rattle.session_laws.proofs.Sizes.{store_length}
 use Rattle.session_laws.proofs.Trialing.{trial_cells}
-use Rattle.session_laws.proofs.Compiling.{says}
 
 -- a trial over more cells: those of the givens
 trial_given : (T : Text) (cells : List Cell) (vs : List Value) (os : List Object) (σ : Store Term) (t : Trial) (θ : RefTrial) → TrialStands T cells os σ t θ →

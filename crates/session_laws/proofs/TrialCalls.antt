@@ -10,13 +10,12 @@ use Rattle.trial_layer.specs.declared.faults.TrialFault.{TrialFault}
 use Rattle.trial_layer.specs.declared.faults.TrialFault.TheVariants.{Open, NoNumber, WrongToken, Overrun}
 use Rattle.trial_layer.specs.declared.token.Token.{Token}
 use Rattle.trial_layer.specs.Tokens.{token}
-use Rattle.trial_layer.specs.Trials.{undo, notes_of, open_result, trial_opened, is_open, keep_result, kept, back_fault, back_result}
+use Rattle.trial_layer.specs.Trials.{undo, notes_of, open_result, trial_opened, is_open, keep_result, back_fault, back_result}
 use Rattle.machine_model.specs.declared.state.Progress.{Progress}
 use Rattle.machine_model.specs.declared.state.Progress.TheVariants.{Unused, Running, Ended}
 use Rattle.machine_model.specs.State.{State}
 use Rattle.semantics.specs.Objects.{Store}
 use Rattle.semantics.specs.Reduction.{Kind, WellFormedStore}
-use Rattle.semantics.specs.Frames.{framed}
 use Rattle.semantics.specs.Machine.{TreeStore}
 use Rattle.semantics.specs.Unloading.{unload_store, unload}
 use Rattle.reference.specs.Configurations.{Limits, sizes, RefTrial, absent, shut, on_trial, Config, config, objects_of, trial_of}
@@ -27,7 +26,6 @@ use Rattle.machine_laws.specs.Standing.{StoreStands}
 use Rattle.session_laws.specs.Sessions.{Session, with_machine, Leaves}
 use Rattle.session_laws.specs.Agreement.{Second, TrialStands, Begun, ProgramAgrees, Agrees}
 use Rattle.session_laws.specs.Main.{Answered}
-use Rattle.session_laws.proofs.Compiling.{says}
 
 -- other objects, as many and as large
 kept_stored : (Λ : Limits) (A : ℕ) (ks : List Kind) (σ σ₂ : Store Term) (c : ℕ) → length σ₂ ≡ length σ → sizes σ₂ ≡ sizes σ → Kept Λ A ks σ c → Kept Λ A ks σ₂ c

@@ -1,10 +1,8 @@
-use Rattle.std.proofs.Common.{◌≡◌, List, [], ◌∷◌, length, Ok, Option, Result, sym, ap, ◌∙◌, arith}
+use Rattle.std.proofs.Common.{[], Ok, Option, sym, ap, ◌∙◌, arith}
 use Rattle.std.proofs.lemmas.Result.{err_from_is_err_and}
-use Rattle.calculus.specs.declared.rows.Row.{Row}
-use Rattle.calculus.specs.declared.rows.Sizes.{Sizes}
 use Rattle.calculus.specs.declared.refusals.Refusal.{Refusal}
 use Rattle.calculus.specs.Sizes.{row_sizes}
-use Rattle.rows.specs.Verdict.{a_term, walk, sized}
+use Rattle.rows.specs.Verdict.{sized}
 use Rattle.rows.specs.Laws.{Readable}
 use Rattle.rows.proofs.Steps.{walk_left, walk_done}
 use Rattle.rows.proofs.Laws.{lawful}

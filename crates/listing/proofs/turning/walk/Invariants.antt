@@ -1,4 +1,3 @@
-use Rattle.std.proofs.Common.{◌-◌}
 use Rattle.calculus.specs.Text.{text_of}
 use Rattle.listing.specs.Cost.{cost}
 use Rattle.listing.specs.Areas.{rooms, state_of}

@@ -1,4 +1,4 @@
-use Rattle.std.proofs.Common.{◌≡◌, ◌-◌, take}
+use Rattle.std.proofs.Common.{◌≡◌, take}
 use Rattle.calculus.specs.Text.{text_of}
 use Rattle.listing.specs.Listing.{written}
 use Rattle.listing.specs.Areas.{row_room, Wrote}
