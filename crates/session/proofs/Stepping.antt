@@ -1,5 +1,5 @@
 -- A call of the code as a step of the main theorem.
-use Rattle.std.proofs.Common.{◌≡◌, ℕ, true, List, Ok, Err, Result, sym, ◌∙◌, subst, MatchResult}
+use Rattle.std.proofs.Common.{◌≡◌, ℕ, List, Ok, Err, Result, sym, ◌∙◌, subst, MatchResult}
 use Rattle.calculus.specs.declared.refusals.Refusal.{Refusal}
 use Rattle.calculus.specs.declared.rows.Row.{Row}
 use Rattle.compiler.specs.Compile.{Compiled, Untouched}

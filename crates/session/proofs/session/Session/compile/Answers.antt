@@ -1,4 +1,4 @@
-use Rattle.std.proofs.Common.{◌≡◌, refl, rules}
+use Rattle.std.proofs.Common.{refl, rules}
 use Rattle.session.proofs.Stepping.{compile_steps}
 use Rattle.session.proofs.session.Session.compile.Goals as goal
 

@@ -1,4 +1,4 @@
-use Rattle.std.proofs.Common.{◌≡◌, sym, refl, ◌∙◌, rules}
+use Rattle.std.proofs.Common.{refl, rules}
 use Rattle.machine.specs.Machine.{state_of}
 use Rattle.reference.specs.Calls as call
 use Rattle.session_laws.proofs.Leaving.{areas_are_sessions}
