@@ -66,7 +66,7 @@ module _ (s t : FlatStore) (ms : List Method) (n : ℕ) (w : Written s t ms n) (
 
   pub laid_after : laid_out (set t.objects.now s.object_count new) (s.object_count + 1) (s.method_count + n) ≡ true
   laid_after =
-      ap (λ es. laid_out (set es s.object_count new) (s.object_count + 1) (s.method_count + n)) w.objects-are
+      ap (λ es. laid_out (set es s.object_count new) (s.object_count + 1) (s.method_count + n)) w.objects_are
       ∙ laid_more no_span s.objects.now more s.object_count (omega arith) (omega (arith, length-set s.objects.now s.object_count new)) new at_n same before s.method_count s.laid_out refl
 
   pub objects_after : objects_in same (set t.objects.now s.object_count new) (s.object_count + 1) t.methods.now ≡ (flat_meaning s).objects ++ ms ∷ []
@@ -74,7 +74,7 @@ module _ (s t : FlatStore) (ms : List Method) (n : ℕ) (w : Written s t ms n) (
       let d = s.methods.now in
       let at = s.method_count in
       let within : at ≤ length d = omega arith in
-      (λ i. objects_in same (set (w.objects-are i) s.object_count new) (s.object_count + 1) (w.methods-are i))
+      (λ i. objects_in same (set (w.objects_are i) s.object_count new) (s.object_count + 1) (w.methods_are i))
       ∙ objects_more no_span s.objects.now more s.object_count (omega arith) (omega (arith, length-set s.objects.now s.object_count new)) new at_n same d (paste d at ms n) ms
       (λ k low. ap (part (paste d at ms n)) (before k low) ∙ cut_before d at ms n within long (span s k) (span_in s k low))
       (cut_new d at ms n within long)

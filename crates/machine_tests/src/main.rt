@@ -2,7 +2,7 @@
 //!
 //! A case begins with `case CELLS FRAMES OBJECTS METHODS`, the lengths of its areas. Every other line is a word and numbers: an entry of
 //! the code area (`list FIRST LEN MARK`, `method LABEL LIST`, an operation) or how much of it is used (`counts`); what is put in
-//! by hand (`cell`, `Cell-at`, `frame`, `make`, `at`, `holds`, `holds_at`, `report`); a given; a call (`start`, `run`, `pieces`, `objects`); or `#` and a title.
+//! by hand (`cell`, `cell-at`, `frame`, `make`, `at`, `holds`, `holds-at`, `report`); a given; a call (`start`, `run`, `pieces`, `objects`); or `#` and a title.
 #![tactic(auto)]
 
 mod areas;

@@ -42,28 +42,28 @@ cloned_sound v w n r same lasts sd c =
     let e = sd r c.root_in in
     let root_first : w.first (w.root n) ≡ v.first r = ap w.first c.root_is ∙ a.first_is in
     push v w n same
-    (λ k lt. ⊎_elim (λ q. inr (ap w.last q ∙ c.last-root, c.root_is ∙ sym q)) (λ ne. inl (lasts k lt ne)) (cases_eq k r))
+    (λ k lt. ⊎_elim (λ q. inr (ap w.last q ∙ c.last_root, c.root_is ∙ sym q)) (λ ne. inl (lasts k lt ne)) (cases_eq k r))
     sd
     (record {
       root_low = omega (arith, c.root_is, c.root_in);
       root_size = ap w.size c.root_is ∙ a.size_is ∙ sym c.size_is;
-      root_filled = ap w.held c.root_is ∙ a.held_is ∙ c.root-filled ∙ sym root_first;
-      held_in = inr (c.held-is ∙ sym root_first);
-      last_low = omega (arith, c.last-is);
-      last_ours = inl c.last-is;
-      previous_low = omega (arith, c.previous-is, e.last_low);
-      previous_falls = inr (omega (arith, c.previous-is, e.last_low));
+      root_filled = ap w.held c.root_is ∙ a.held_is ∙ c.root_filled ∙ sym root_first;
+      held_in = inr (c.held_is ∙ sym root_first);
+      last_low = omega (arith, c.last_is);
+      last_ours = inl c.last_is;
+      previous_low = omega (arith, c.previous_is, e.last_low);
+      previous_falls = inr (omega (arith, c.previous_is, e.last_low));
       previous_ours = ⊎_elim
-          (λ q. inl (c.previous-is ∙ q ∙ sym c.root_is))
-          (λ q. inr (ap w.root c.previous-is ∙ (same (v.last r) e.last_low).root_is ∙ q ∙ sym c.root_is))
+          (λ q. inl (c.previous_is ∙ q ∙ sym c.root_is))
+          (λ q. inr (ap w.root c.previous_is ∙ (same (v.last r) e.last_low).root_is ∙ q ∙ sym c.root_is))
           e.last_ours;
-      listed = inr (omega (arith, ap w.last c.root_is, c.last-root));
+      listed = inr (omega (arith, ap w.last c.root_is, c.last_root));
       listed_before = λ j low q.
           let b = same j low in
           let j_root : v.root j ≡ r = sym b.root_is ∙ q ∙ c.root_is in
           ⊎_elim
           (λ f. inl (b.held_is ∙ f ∙ sym b.first_is))
-          (λ h. inr (omega (arith, h, ap v.last j_root, c.previous-is)))
+          (λ h. inr (omega (arith, h, ap v.last j_root, c.previous_is)))
           (sd j low).listed;
     })
 

@@ -73,7 +73,7 @@ module _ (s t u : SharingStore) (l at : ℕ) (w : Walked s t l at) (f : Fills t 
       record {
         only = fills_then s t u w.only f.only;
         in_use = omega (arith, e.previous_low, in_use_still);
-        is_filled = f.only.stay_filled l w.is-filled;
+        is_filled = f.only.stay_filled l w.is_filled;
         ours = ⊎_elim (λ q. inl (q ∙ ours_still)) (λ q. inr (q ∙ ours_still)) e.previous_ours;
         done = λ k low q.
             ⊎_elim
@@ -89,7 +89,7 @@ module _ (s t u : SharingStore) (l at : ℕ) (w : Walked s t l at) (f : Fills t 
 pub walk_ends : (s t : SharingStore) (l : ℕ) → Walked s t l l → (k : ℕ) → k < t.object_count → (entry t k).root ≡ l → Filled (shown t) k
 walk_ends s t l w k low q =
     ⊎_elim (λ f. f)
-    (λ h. let same : l ≡ k = omega (arith, (sd_of t k low).root_low) in subst (λ (x : ℕ). Filled (shown t) x) same w.is-filled)
+    (λ h. let same : l ≡ k = omega (arith, (sd_of t k low).root_low) in subst (λ (x : ℕ). Filled (shown t) x) same w.is_filled)
     (w.done k low q)
 
 abbrev pub with_last : SharedEntry → ℕ → SharedEntry

@@ -1,4 +1,4 @@
-use Rattle.std.proofs.Common.{◌≡◌, ap, ◌∙◌, arith, rules}
+use Rattle.std.proofs.Common.{ap, ◌∙◌, arith, rules}
 use Rattle.calculus.specs.Text.{text_of}
 use Rattle.machine_model.specs.Run.{turned}
 use Rattle.machine_model.proofs.Counting.{settled_sound}

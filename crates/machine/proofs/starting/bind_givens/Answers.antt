@@ -1,4 +1,4 @@
-use Rattle.std.proofs.Common.{◌≡◌, [], ◌∷◌, length, refl, ap, ◌∙◌, arith, length-append}
+use Rattle.std.proofs.Common.{length, refl, ap, ◌∙◌, arith, length-append}
 use Rattle.calculus.specs.Held.{laid}
 use Rattle.machine.proofs.Givens.{none_bound, one_bound}
 use Rattle.machine.proofs.starting.bind_givens.Goals as goal

@@ -1,4 +1,4 @@
-use Rattle.std.proofs.Common.{◌≡◌, ◌-◌, ◌<◌, sym, ap, ◌∙◌, arith}
+use Rattle.std.proofs.Common.{sym, ap, ◌∙◌, arith}
 use Rattle.calculus.specs.Held.{laid}
 use Rattle.machine_model.specs.State.{walked}
 use Rattle.machine_model.proofs.Walks.{walked_none, walked_here, walked_on, variable_is}

@@ -1,4 +1,4 @@
-use Rattle.std.proofs.Common.{◌≡◌, ◌-◌, ◌^◌, ◌<◌}
+use Rattle.std.proofs.Common.{◌≡◌, ◌-◌}
 use Rattle.calculus.specs.Held.{laid}
 use Rattle.machine_model.specs.State.{walked}
 use Rattle.machine_steps.proofs.fetching.look_up.Given as goal

@@ -1,8 +1,7 @@
-use Rattle.std.proofs.Common.{◌≡◌, ◌∷◌, length, sym, refl, ap, ◌∙◌, arith}
+use Rattle.std.proofs.Common.{length, sym, refl, ap, ◌∙◌, arith}
 use Rattle.calculus.specs.Held.{held, room}
 use Rattle.machine_model.specs.declared.steps.Due.TheVariants.{Done, Astray, Reduce}
 use Rattle.calculus.specs.Text.{text_of}
-use Rattle.machine_model.specs.State.{due}
 use Rattle.machine_steps.specs.Parts.{state_at}
 use Rattle.machine_model.proofs.Settles.{settled_fill, settled_back, stopped, due_fills_vacant}
 use Rattle.machine_steps.proofs.settling.settle.Goals as goal

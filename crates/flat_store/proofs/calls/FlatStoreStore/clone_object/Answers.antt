@@ -41,7 +41,15 @@ invariant_of-self c =
     let from = span s c.args.location in
     let low = span_in s c.args.location c.if-location-self.false in
     let long = sym (length_part s.methods.now from (omega arith)) in
-    (simp length-set (omega arith), (omega arith, (omega arith, (omega arith, (omega arith, (omega arith, (laid_after s t (part s.methods.now from) from.size w long (omega arith), tt)))))))
+    record {
+      object_room = simp length-set (omega arith);
+      method_room = omega arith;
+      objects_small = omega arith;
+      methods_small = omega arith;
+      objects_fit = omega arith;
+      methods_fit = omega arith;
+      laid_out = laid_after s t (part s.methods.now from) from.size w long (omega arith);
+    }
 
 pub returns : goal.returns
 returns c =
@@ -58,6 +66,6 @@ returns c =
     record {
       answer = clone_is _ _ _ _ _ (told s) l h _ room;
       state =
-          (λ i. record { objects = objects i; object_limit = w.object_limit-is i; method_limit = w.method_limit-is i; trial = no_trial })
+          (λ i. record { objects = objects i; object_limit = w.object_limit_is i; method_limit = w.method_limit_is i; trial = no_trial })
           ∙ cloned_is _ _ _ _ _ (told s) l h _ room;
     }

@@ -25,7 +25,15 @@ invariant_of-self c =
     let t = c.write_methods.new.self in
     let w = c.write_methods.ensures in
     let es = c.args.entries.now in
-    (simp length-set (omega arith), (omega arith, (omega arith, (omega arith, (omega arith, (omega arith, (laid_after s t (methods_of es c.args.env) (length es) w (sym (length-map es (method_of c.args.env))) (omega arith), tt)))))))
+    record {
+      object_room = simp length-set (omega arith);
+      method_room = omega arith;
+      objects_small = omega arith;
+      methods_small = omega arith;
+      objects_fit = omega arith;
+      methods_fit = omega arith;
+      laid_out = laid_after s t (methods_of es c.args.env) (length es) w (sym (length-map es (method_of c.args.env))) (omega arith);
+    }
 
 pub returns : goal.returns
 returns c =
@@ -38,6 +46,6 @@ returns c =
     record {
       answer = room;
       state =
-          (λ i. record { objects = objects i; object_limit = w.object_limit-is i; method_limit = w.method_limit-is i; trial = no_trial })
+          (λ i. record { objects = objects i; object_limit = w.object_limit_is i; method_limit = w.method_limit_is i; trial = no_trial })
           ∙ made_is _ _ _ _ _ (told s) es c.args.env _ room;
     }

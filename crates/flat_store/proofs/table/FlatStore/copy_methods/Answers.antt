@@ -11,10 +11,10 @@ loop-i-preserved c =
     let s = c.args.self.now in
     let w = c.loop-i.invariant in
     record {
-      methods_are = copy_more s.methods.now c.loop-i.self.methods.now s.method_count c.args.from c.loop-i.i w.methods-are (omega arith) (omega arith) (omega arith);
-      objects_are = w.objects-are;
-      object_count_is = w.object_count-is;
-      method_count_is = w.method_count-is;
-      object_limit_is = w.object_limit-is;
-      method_limit_is = w.method_limit-is;
+      methods_are = copy_more s.methods.now c.loop-i.self.methods.now s.method_count c.args.from c.loop-i.i w.methods_are (omega arith) (omega arith) (omega arith);
+      objects_are = w.objects_are;
+      object_count_is = w.object_count_is;
+      method_count_is = w.method_count_is;
+      object_limit_is = w.object_limit_is;
+      method_limit_is = w.method_limit_is;
     }

@@ -1,4 +1,4 @@
-use Rattle.std.proofs.Common.{◌≡◌, ap, ◌∙◌, arith}
+use Rattle.std.proofs.Common.{ap, ◌∙◌, arith}
 use Rattle.calculus.specs.Text.{text_of}
 use Rattle.machine_model.proofs.Runs.{one_left, goes_on, stops_there}
 use Rattle.machine_model.proofs.Counting.{turn_sound}

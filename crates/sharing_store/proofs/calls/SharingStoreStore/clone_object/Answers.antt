@@ -59,7 +59,16 @@ invariant_of-self c =
     let room : n < length es = omega arith in
     let ok = ap (λ (fs : List SharedEntry). laid 0 (map own_span fs) s.method_count) (take-set es n new) ∙ s.laid_out in
     let fine = sound_from (set es n new) n (put_sound es n room new (sd_of s)) in
-    (simp length-set (omega arith), (omega arith, (omega arith, (omega arith, (omega arith, (omega arith, (ok, (fine, tt))))))))
+    record {
+      object_room = simp length-set (omega arith);
+      method_room = omega arith;
+      objects_small = omega arith;
+      methods_small = omega arith;
+      objects_fit = omega arith;
+      methods_fit = omega arith;
+      laid_out = ok;
+      shares = fine;
+    }
 
 pub invariant_of-self-2 : goal.invariant_of-self-2
 invariant_of-self-2 c =
@@ -75,7 +84,16 @@ invariant_of-self-2 c =
     let fs = joined es n room new r in_use in
     let ok = laid_more no_entry es fs n (omega arith) (join_room es n room new r in_use) new (join_at es n room new r in_use) own_span (λ k lt. own_same es fs k (join_agrees es n room new r in_use k lt)) s.method_count s.laid_out refl in
     let fine = sound_from (joined es n room new r in_use) (n + 1) (join_sound es n room new r in_use refl o.root_size o.root_first refl refl o.root_filled (sd_of s)) in
-    (simp length-set (omega arith), (omega arith, (omega arith, (omega arith, (omega arith, (omega arith, (ok, (fine, tt))))))))
+    record {
+      object_room = simp length-set (omega arith);
+      method_room = omega arith;
+      objects_small = omega arith;
+      methods_small = omega arith;
+      objects_fit = omega arith;
+      methods_fit = omega arith;
+      laid_out = ok;
+      shares = fine;
+    }
 
 pub returns : goal.returns
 returns c =

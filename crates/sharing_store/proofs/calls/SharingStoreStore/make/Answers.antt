@@ -43,7 +43,16 @@ invariant_of-self c =
     let room : n < length es = omega arith in
     let ok = laid_more no_entry es (set es n new) n (omega arith) (omega (arith, length-set es n new)) new (put_at es n room new) own_span (λ k lt. own_same es (set es n new) k (put_agrees es n room new k lt)) at s.laid_out refl in
     let fine = sound_from (set es n new) (n + 1) (put_made es n room new (sd_of s) refl refl refl refl) in
-    (simp length-set (omega arith), (omega arith, (omega arith, (omega arith, (omega arith, (omega arith, ((λ i. laid_out (set (w.entries-are i) n new) (n + 1) (at + size)) ∙ ok, ((λ i. sound (set (w.entries-are i) n new) (n + 1)) ∙ fine, tt))))))))
+    record {
+      object_room = simp length-set (omega arith);
+      method_room = omega arith;
+      objects_small = omega arith;
+      methods_small = omega arith;
+      objects_fit = omega arith;
+      methods_fit = omega arith;
+      laid_out = (λ i. laid_out (set (w.entries_are i) n new) (n + 1) (at + size)) ∙ ok;
+      shares = (λ i. sound (set (w.entries_are i) n new) (n + 1)) ∙ fine;
+    }
 
 pub returns : goal.returns
 returns c =
@@ -61,7 +70,7 @@ returns c =
     let space : n < length es = omega arith in
     let room = room_is _ _ _ _ _ (told s) size (omega arith) (omega arith) in
     let objects =
-    (λ i. objects_in held_span (set (w.entries-are i) n new) (n + 1) (w.methods-are i))
+    (λ i. objects_in held_span (set (w.entries_are i) n new) (n + 1) (w.methods_are i))
     ∙ objects_more no_entry es (set es n new) n (omega arith) (omega (arith, length-set es n new)) new (put_at es n space new) held_span d (paste d at ms size) ms
     (λ k lt. held_same es (set es n new) (paste d at ms size) k (put_agrees es n space new k lt) ∙ cut_before d at ms size in_area long (span s k) (held_fits s k lt))
     (cut_new d at ms size in_area long) in

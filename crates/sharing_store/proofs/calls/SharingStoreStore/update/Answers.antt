@@ -39,7 +39,7 @@ returns c =
     let p = c.args.place in
     let v = c.args.closure in
     let h = c.if-location-self.false in
-    let k : p < (entry t l).size = omega (arith, d.size-is, c.if-place-entry.false) in
+    let k : p < (entry t l).size = omega (arith, d.size_is, c.if-place-entry.false) in
     let low : l < t.object_count = omega (arith, h, d.counts.object_count_is) in
     -- the methods stand where the space was when the call began
     let at : (entry s l).first ≡ (entry t l).held = sym (d.is_filled ∙ d.first_is) in

@@ -32,28 +32,17 @@ invariant_of-self c =
     let full = with_held (entry s l) (entry s l).first in
     let ok = laid_after es s.methods.now n (omega arith) s.method_count s.laid_out (omega arith) sd l c.requires c.if-entry.true in
     let fine = sound_from (set es l full) n (sound_after es s.methods.now n (omega arith) s.method_count s.laid_out (omega arith) sd l c.requires c.if-entry.true) in
-    let k = w.counts in (
-      simp length-set (omega arith),
-      (
-        omega arith,
-        (
-          omega arith,
-          (
-            omega arith,
-            (
-              omega arith,
-              (
-                omega arith,
-                (
-                  (λ i. laid_out (set (w.entries-are i) l full) (k.object_count_is i) (k.method_count_is i)) ∙ ok,
-                  ((λ i. sound (set (w.entries-are i) l full) (k.object_count_is i)) ∙ fine, tt),
-                ),
-              ),
-            ),
-          ),
-        ),
-      ),
-    )
+    let k = w.counts in
+    record {
+      object_room = simp length-set (omega arith);
+      method_room = omega arith;
+      objects_small = omega arith;
+      methods_small = omega arith;
+      objects_fit = omega arith;
+      methods_fit = omega arith;
+      laid_out = (λ i. laid_out (set (w.entries_are i) l full) (k.object_count_is i) (k.method_count_is i)) ∙ ok;
+      shares = (λ i. sound (set (w.entries_are i) l full) (k.object_count_is i)) ∙ fine;
+    }
 
 pub returns-then-entry : goal.returns-then-entry
 returns-then-entry c =
@@ -71,11 +60,11 @@ returns-then-entry c =
     record {
       only = record {
         counts = record { object_count_is = k.object_count_is; method_count_is = k.method_count_is; object_limit_is = k.object_limit_is; method_limit_is = k.method_limit_is };
-        objects_are = (λ i. objects_in held_span (set (w.entries-are i) l full) (k.object_count_is i) (w.methods-are i)) ∙ objects_after es ms n (omega arith) end s.laid_out (omega arith) sd l c.requires un;
-        entries_are = subst (λ (fs : List SharedEntry). (x : ℕ) → entry_at (set fs l full) x ≡ with_held (entry_at es x) (entry_at (set fs l full) x).held) (sym w.entries-are) (entries_only es ms n (omega arith) end s.laid_out (omega arith) sd l c.requires un);
-        stay_filled = subst (λ (fs : List SharedEntry). (x : ℕ) → Filled (view es) x → Filled (view (set fs l full)) x) (sym w.entries-are) (stays_filled es ms n (omega arith) end s.laid_out (omega arith) sd l c.requires un);
+        objects_are = (λ i. objects_in held_span (set (w.entries_are i) l full) (k.object_count_is i) (w.methods_are i)) ∙ objects_after es ms n (omega arith) end s.laid_out (omega arith) sd l c.requires un;
+        entries_are = subst (λ (fs : List SharedEntry). (x : ℕ) → entry_at (set fs l full) x ≡ with_held (entry_at es x) (entry_at (set fs l full) x).held) (sym w.entries_are) (entries_only es ms n (omega arith) end s.laid_out (omega arith) sd l c.requires un);
+        stay_filled = subst (λ (fs : List SharedEntry). (x : ℕ) → Filled (view es) x → Filled (view (set fs l full)) x) (sym w.entries_are) (stays_filled es ms n (omega arith) end s.laid_out (omega arith) sd l c.requires un);
       };
-      now_filled = subst (λ (fs : List SharedEntry). Filled (view (set fs l full)) l) (sym w.entries-are) (filled_now es ms n (omega arith) end s.laid_out (omega arith) sd l c.requires un);
+      now_filled = subst (λ (fs : List SharedEntry). Filled (view (set fs l full)) l) (sym w.entries_are) (filled_now es ms n (omega arith) end s.laid_out (omega arith) sd l c.requires un);
       idle = λ f. absurd (un f);
     }
 

@@ -25,9 +25,18 @@ invariant_of-self c =
     let w = subst (λ (x : ℕ). Walked s t l x) c.loop-at-test.false c.loop-at.invariant in
     let es = t.objects.now in
     let n = t.object_count in
-    let ok = laid_after es t.methods.now n (omega arith) l w.in-use t.method_count t.laid_out in
-    let fine = sound_from (set es l (with_last (entry t l) l)) n (sound_after es t.methods.now n (omega arith) l w.in-use (walk_ends s t l w) (sd_of t)) in
-    (simp length-set (omega arith), (omega arith, (omega arith, (omega arith, (omega arith, (omega arith, (ok, (fine, tt))))))))
+    let ok = laid_after es t.methods.now n (omega arith) l w.in_use t.method_count t.laid_out in
+    let fine = sound_from (set es l (with_last (entry t l) l)) n (sound_after es t.methods.now n (omega arith) l w.in_use (walk_ends s t l w) (sd_of t)) in
+    record {
+      object_room = simp length-set (omega arith);
+      method_room = omega arith;
+      objects_small = omega arith;
+      methods_small = omega arith;
+      objects_fit = omega arith;
+      methods_fit = omega arith;
+      laid_out = ok;
+      shares = fine;
+    }
 
 pub returns : goal.returns
 returns c =
@@ -40,23 +49,23 @@ returns c =
     let ms = t.methods.now in
     let n = t.object_count in
     let o = fills_then r s t c.fill.ensures.only w.only in
-    let same = entries_but es ms n (omega arith) l w.in-use in
+    let same = entries_but es ms n (omega arith) l w.in_use in
     let k = o.counts in
     record {
       counts = record { object_count_is = k.object_count_is; method_count_is = k.method_count_is; object_limit_is = k.object_limit_is; method_limit_is = k.method_limit_is };
-      objects_are = objects_after es ms n (omega arith) l w.in-use ∙ o.objects_are;
+      objects_are = objects_after es ms n (omega arith) l w.in_use ∙ o.objects_are;
       first_is = ap (λ (e : SharedEntry). e.first) (same l) ∙ ap (λ (e : SharedEntry). e.first) (o.entries_are l);
       size_is = ap (λ (e : SharedEntry). e.size) (same l) ∙ ap (λ (e : SharedEntry). e.size) (o.entries_are l);
-      is_filled = ap (λ (e : SharedEntry). e.held) (same l) ∙ w.is-filled ∙ sym (ap (λ (e : SharedEntry). e.first) (same l));
+      is_filled = ap (λ (e : SharedEntry). e.held) (same l) ∙ w.is_filled ∙ sym (ap (λ (e : SharedEntry). e.first) (same l));
       alone = λ x low q. ap (λ (e : SharedEntry). e.held) (same x) ∙ walk_ends s t l w x low (sym (ap (λ (e : SharedEntry). e.root) (same x)) ∙ q) ∙ sym (ap (λ (e : SharedEntry). e.first) (same x));
-      emptied = emptied_is es ms n (omega arith) l w.in-use;
+      emptied = emptied_is es ms n (omega arith) l w.in_use;
       idle = λ f q.
           let a = c.fill.ensures.idle f in
           let q' : (entry s l).last ≡ l = ap (λ (fs : List SharedEntry). (entry_at fs l).last) a.entries_are ∙ q in
           let b = (w.idle q').1 in
           let both : es ≡ r.objects.now = b.entries_are ∙ a.entries_are in
           record {
-            entries_are = already_empty es ms n (omega arith) l w.in-use (ap (λ (fs : List SharedEntry). (entry_at fs l).last) both ∙ q) ∙ both;
+            entries_are = already_empty es ms n (omega arith) l w.in_use (ap (λ (fs : List SharedEntry). (entry_at fs l).last) both ∙ q) ∙ both;
             methods_are = b.methods_are ∙ a.methods_are;
           };
     }

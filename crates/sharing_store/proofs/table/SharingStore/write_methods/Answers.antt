@@ -11,7 +11,7 @@ loop-i-preserved c =
     let s = c.args.self.now in
     let w = c.loop-i.invariant in
     record {
-      methods_are = entry_more s.methods.now c.loop-i.self.methods.now s.method_count c.args.entries.now c.args.env c.loop-i.i _ w.methods-are (omega arith) (omega arith);
-      entries_are = w.entries-are;
+      methods_are = entry_more s.methods.now c.loop-i.self.methods.now s.method_count c.args.entries.now c.args.env c.loop-i.i _ w.methods_are (omega arith) (omega arith);
+      entries_are = w.entries_are;
       counts = record { object_count_is = w.counts.object_count_is; method_count_is = w.counts.method_count_is; object_limit_is = w.counts.object_limit_is; method_limit_is = w.counts.method_limit_is };
     }
