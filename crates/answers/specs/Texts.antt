@@ -6,7 +6,6 @@ use Rattle.calculus.specs.declared.code.Operation.TheVariants as op
 use Rattle.calculus.specs.declared.code.MethodEntry.{MethodEntry}
 use Rattle.calculus.specs.declared.refusals.Place.{Place}
 use Rattle.calculus.specs.declared.refusals.Place.TheVariants.{Whole, Row, Operation as At}
-use Rattle.calculus.specs.declared.refusals.Refusal.{Refusal}
 use Rattle.calculus.specs.declared.rows.Sizes.{Sizes}
 use Rattle.calculus.specs.Refusals.{number_of, place_of}
 use Rattle.signs.specs.Writing.{value_text}
@@ -14,7 +13,6 @@ use Rattle.machine_model.specs.declared.answers.RunAnswer.{RunAnswer}
 use Rattle.machine_model.specs.declared.answers.RunAnswer.TheVariants.{NotRunning, Done, Paused, Refused}
 use Rattle.machine_model.specs.declared.state.Report.{Report}
 use Rattle.machine_model.specs.Answers.{fault_number}
-use Rattle.trial_layer.specs.declared.faults.TrialFault.{TrialFault}
 use Rattle.trial_layer.specs.Faults.{trial_number}
 use Rattle.answers.specs.declared.answers.Answer.{Answer}
 use Rattle.answers.specs.declared.answers.Answer.TheVariants as answer

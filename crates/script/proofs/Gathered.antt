@@ -1,5 +1,5 @@
 -- Words that are read alike, one after another.
-use Rattle.std.proofs.Common.{◌≡◌, ℕ, List, [], ◌∷◌, ◌++◌, Some, None, Ok, Err, Option, Result, sym, refl, ap, ◌∙◌, append_assoc}
+use Rattle.std.proofs.Common.{◌≡◌, ℕ, List, [], ◌∷◌, ◌++◌, Some, Ok, Err, Option, Result, sym, refl, ap, ◌∙◌, append_assoc}
 use Rattle.std.specs.Option.{ok_or}
 use Rattle.script.specs.declared.calls.Expected.{Expected}
 use Rattle.script.specs.Lines.{then, all_in}

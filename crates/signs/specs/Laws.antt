@@ -1,5 +1,5 @@
 -- What is written of a row or a value is read again.
-use Rattle.std.specs.Prelude.{◌≡◌, ℕ, ◌^◌, ◌<◌, Bool, cond, ◌&&◌, ℤ, Some, FitsSigned, nat_le}
+use Rattle.std.specs.Prelude.{◌≡◌, ◌^◌, ◌<◌, Bool, cond, ◌&&◌, Some, FitsSigned, nat_le}
 use Rattle.std.specs.Int.{w64}
 use Rattle.calculus.specs.declared.rows.Row.{Row}
 use Rattle.calculus.specs.declared.values.Value.{Value}

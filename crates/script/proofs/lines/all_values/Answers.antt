@@ -7,4 +7,4 @@ use Rattle.script.proofs.lines.all_values.Goals as goal
 
 pub loop-word-preserved : goal.loop-word-preserved
 loop-word-preserved c =
-    step value_in lacks.Value (vec_items c.loop-word.values) (left c.loop-word.words) c.loop-word.invariant c.in-Some.ensures (sym c.read_value.ensures ∙ c.in_ok-value.ensures.ok-part) c.in_ok-push.ensures.items
+    step value_in lacks.Value (vec_items c.loop-word.values) (left c.loop-word.words) c.loop-word.invariant c.in-Some.ensures (sym c.read_value.ensures ∙ c.in_ok-value.ensures.ok_part) c.in_ok-push.ensures.items

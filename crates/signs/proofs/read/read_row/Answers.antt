@@ -1,4 +1,4 @@
-use Rattle.std.proofs.Common.{◌≡◌, sym, ap, ◌∙◌, arith}
+use Rattle.std.proofs.Common.{sym, ap, ◌∙◌, arith}
 use Rattle.signs.specs.Reading.{row_in}
 use Rattle.signs.proofs.Fields.{headed}
 use Rattle.signs.proofs.read.read_row.Goals as goal
