@@ -2,7 +2,7 @@
 use Rattle.std.proofs.Common.{◌≡◌, ℕ, ◌^◌, ◌<◌, ◌≤◌, true, false, eqb, List, [], ◌∷◌, ◌++◌, length, ℤ, pos, negsuc, Some, None, decimal, sym, refl, ap, ◌∙◌, subst, ⊎_elim, arith, w64, SFits}
 use Rattle.std.specs.Option.{option_map}
 use Rattle.std.specs.Fmt.{signed_decimal}
-use Rattle.std.specs.List.{AllByRecursion as All}
+use Rattle.std.specs.List.{AllByRecursion}
 use Rattle.std.proofs.lemmas.Fmt.{decimal_nonempty}
 use Rattle.std.proofs.lemmas.Bool.{cases_eq, cond-false}
 use Rattle.std.proofs.lemmas.Bool.Decides.{nat_tests}
@@ -23,25 +23,25 @@ integers : (z : ℤ) → SFits w64 z → integer_in (signed_decimal z) ≡ Some 
 integers = read_again.1
 
 -- digits have no stroke among them
-cut_digits : (ds rest : List ℕ) → All (λ c. digit c ≡ true) ds → cut (ds ++ 47 ∷ rest) ≡ Some (ds, rest)
+cut_digits : (ds rest : List ℕ) → AllByRecursion (λ c. digit c ≡ true) ds → cut (ds ++ 47 ∷ rest) ≡ Some (ds, rest)
 cut_digits [] rest a = refl
 cut_digits (d ∷ ds) rest a =
     let e : eqb d 47 ≡ false = grind (arith, nat_tests, a.0) in
     cond-false _ _ _ e ∙ ap (option_map (λ p. (d ∷ p.0, p.1))) (cut_digits ds rest a.1)
 
 -- digits begin with no sign
-no_sign : (ds rest : List ℕ) → All (λ c. digit c ≡ true) ds → 0 < length ds → row_in (ds ++ rest) ≡ spelled_in (ds ++ rest)
+no_sign : (ds rest : List ℕ) → AllByRecursion (λ c. digit c ≡ true) ds → 0 < length ds → row_in (ds ++ rest) ≡ spelled_in (ds ++ rest)
 no_sign [] rest a h = absurd (omega arith)
 no_sign (d ∷ ds) rest a h = let e = a.0 in grind (arith, nat_tests)
 
-no_at : (ds : List ℕ) → All (λ c. digit c ≡ true) ds → value_in ds ≡ option_map Figure (integer_in ds)
+no_at : (ds : List ℕ) → AllByRecursion (λ c. digit c ≡ true) ds → value_in ds ≡ option_map Figure (integer_in ds)
 no_at [] a = refl
 no_at (d ∷ ds) a = let e : eqb d 64 ≡ false = grind (arith, nat_tests, a.0) in cond-false _ _ _ e
 
 module _ (k l : ℕ) (n : ℤ) (f : RowFits (row k l n)) where
   spelled_again : row_in (spelled (row k l n)) ≡ Some (row k l n)
   spelled_again =
-      let digs : All (λ c. digit c ≡ true) (decimal k) = digits_decimal k (omega (arith, f.kind)) in
+      let digs : AllByRecursion (λ c. digit c ≡ true) (decimal k) = digits_decimal k (omega (arith, f.kind)) in
       no_sign (decimal k) _ digs (decimal_nonempty k (omega (arith, f.kind)))
       ∙ ap (λ o. if_some o (λ p. if_some (cut p.1) (λ q. fields_in p.0 q.0 q.1) None) None) (cut_digits (decimal k) (decimal l ++ 47 ∷ signed_decimal n) digs)
       ∙ ap (λ o. if_some o (λ q. fields_in (decimal k) q.0 q.1) None) (cut_digits (decimal l) (signed_decimal n) (digits_decimal l (omega (arith, f.label))))

@@ -5,7 +5,7 @@ use Rattle.std.proofs.lemmas.Bool.{le-ltb, lt-ltb, eq-eqb, cond-true, cond-false
 use Rattle.std.proofs.lemmas.List.{at_drop_more, at_drop_all, take_rest}
 use Rattle.std.proofs.lemmas.Bool.Decides.{nat_tests}
 use Rattle.std.specs.Option.{option_map}
-use Rattle.std.specs.List.{AllByRecursion as All}
+use Rattle.std.specs.List.{AllByRecursion}
 use Rattle.std.proofs.ByRecursion.{All-append}
 use Rattle.std.specs.Fmt.{signed_decimal}
 use Rattle.std.proofs.lemmas.Fmt.{decimal_by_steps, decimal_nonempty}
@@ -100,8 +100,8 @@ read_again = (bits, signs)
     signs (negsuc n) f = let m : n < 2 ^ 63 = f.sfits in ap below_zero (natural_decimal (suc n) (omega arith)) ∙ ap (option_map (λ (k : ℕ). neg_ℤ (pos k))) (cond-true _ _ _ (lt-ltb (suc n) (2 ^ 63 + 1) (omega arith)))
 
 -- what is written of a number is digits
-pub digits_decimal : (n : ℕ) → n < 2 ^ 64 → All (λ c. digit c ≡ true) (decimal n)
+pub digits_decimal : (n : ℕ) → n < 2 ^ 64 → AllByRecursion (λ c. digit c ≡ true) (decimal n)
 digits_decimal =
-    decimal_by_steps (λ n ds. All (λ c. digit c ≡ true) ds)
+    decimal_by_steps (λ n ds. AllByRecursion (λ c. digit c ≡ true) ds)
     (λ n h. (grind (arith, nat_tests), tt))
     (λ n ds h a. let r : n % 10 < 10 = mod-lt n (omega arith) in All-append (λ c. digit c ≡ true) ds _ a (grind (arith, nat_tests), tt))

@@ -3,7 +3,7 @@ use Rattle.std.proofs.Common.{◌≡◌, ℕ, zero, suc, ◌-◌, ◌<◌, ◌�
 use native.Mathlib.Nat.{sub-zero}
 use Rattle.std.proofs.lemmas.Bool.{cond-true, cond-false, cases_Bool}
 use Rattle.std.proofs.lemmas.List.{get_or-drop, length-drop, take_rest}
-use Rattle.std.specs.List.{AllByRecursion as All}
+use Rattle.std.specs.List.{AllByRecursion}
 use Rattle.words.specs.Laws.{Parted}
 use Rattle.words.specs.Words.{blank, Run, ended, words_after, words_in}
 
@@ -75,7 +75,7 @@ parted_after : (w front back : List ℕ) (b : ℕ) → blank b ≡ true → word
 parted_after w [] back b e = cond-true _ _ _ e ∙ ended_before w [] (words_in back)
 parted_after w (c ∷ front) back b e = either (blank c) w _ _ _ _ _ (parted_after [] front back b e) (parted_after (w ++ c ∷ []) front back b e)
 
-solid : (v w : List ℕ) → All (λ c. blank c ≡ false) w → words_after v w ≡ ended (v ++ w) []
+solid : (v w : List ℕ) → AllByRecursion (λ c. blank c ≡ false) w → words_after v w ≡ ended (v ++ w) []
 solid v [] h = ap (λ l. ended l []) (sym (append-nil v))
 solid v (c ∷ w) h = cond-false _ _ _ h.0 ∙ solid (v ++ c ∷ []) w h.1 ∙ ap (λ l. ended l []) (append_assoc v (c ∷ []) w)
 
