@@ -11,7 +11,6 @@ use Rattle.store.specs.declared.closures.Closure.{Closure}
 use Rattle.store.specs.Meaning.{Object}
 use Rattle.machine_model.specs.declared.state.Cell.{Cell}
 use Rattle.machine_model.specs.declared.state.Frame.{Frame}
-use Rattle.machine_model.specs.State.{State}
 use Rattle.semantics.specs.Objects as objects
 use Rattle.semantics.specs.Machine.{Env, closure, TreeStore, empty, full}
 use Rattle.semantics.specs.Machine as tree

@@ -3,7 +3,6 @@ use Rattle.store.specs.Meaning.{Meaning}
 use Rattle.trial_layer.specs.Layers.{layer_meaning}
 use Rattle.trial_layer.specs.Trials.{back_result, put_back}
 use Rattle.trial_layer.proofs.Running.{back}
-use Rattle.trial_layer.proofs.layer.TrialLayer.put_back.Given as given
 use Rattle.trial_layer.proofs.layer.TrialLayer.put_back.Goals as goal
 
 pub returns-in-Some : goal.returns-in-Some
