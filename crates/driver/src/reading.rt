@@ -1,4 +1,8 @@
 //! The script on standard input, and the answers on standard output.
+ghost use Rattle.std.specs.Prelude.{◌≡◌, IfErr};
+ghost use Rattle.std.specs.IoError.{error_kind};
+ghost use Rattle.std.specs.declared.io.ErrorKind.TheVariants.{OutOfMemory};
+
 use script::calls::{Call, Unread};
 use script::lines::read_line;
 use script::settings::{Lengths, Settings, StoreKind};
@@ -17,7 +21,10 @@ pub struct Script {
 }
 
 impl Script {
-    pub fn new(rt: HostRuntime) -> io::Result<Script> {
+    /// The buffer that the script is read into is the one thing that can fail.
+    pub fn new(rt: HostRuntime) -> io::Result<Script>
+        ensures memory { IfErr result (λ e. error_kind e ≡ OutOfMemory) }
+    {
         let lines = BufReader::new(rt.alloc(), rt.stdin())?.lines(rt.alloc());
         Ok(Script {
             rt,
