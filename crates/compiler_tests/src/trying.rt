@@ -1,7 +1,7 @@
 //! What is tried.
 ghost use Rattle.std.specs.Prelude.{◌≡◌, ℕ, ◌≤◌, map, length, Ok};
 ghost use Rattle.calculus.specs.Held.{counted};
-ghost use Rattle.calculus.specs.Rows.{plain as plain-Row};
+ghost use Rattle.calculus.specs.Rows.{plain as plain_row};
 ghost use Rattle.compiler.specs.Compile.{answer};
 ghost use Rattle.listing.specs.Back.{Gave};
 
@@ -180,7 +180,7 @@ fn there_and_back(
         answer rows.now givens tables.old counts.old ≡ Ok n →
         length rows.now ≤ counted (length area.old) →
         200 ≤ counted (length stack.old) →
-        Gave (map plain-Row rows.now) result area.old area.new }
+        Gave (map plain_row rows.now) result area.old area.new }
 {
     match compile(rows, givens, tables, counts) {
         Ok(program) => list_back(program, tables, *counts, area, stack),

@@ -6,7 +6,7 @@ use Rattle.calculus.specs.Sizes.{row_sizes}
 use Rattle.calculus.specs.Terms.{Term, var, val, object, select, update, clone, bind, Methods, nil, method, Static, StaticAll, Closed, ClosedAll}
 use Rattle.calculus.specs.declared.code.Counts.{Counts}
 use Rattle.calculus.specs.declared.refusals.RowFault.{RowFault}
-use Rattle.calculus.specs.declared.refusals.RowFault.TheVariants as row-fault
+use Rattle.calculus.specs.declared.refusals.RowFault.TheVariants as row_fault
 use Rattle.calculus.specs.declared.refusals.Refusal.{Refusal}
 use Rattle.calculus.specs.declared.refusals.Refusal.TheVariants.{RowCount, GivenCount, AtRow, ContentsFull, OperationsFull, MethodsFull}
 use Rattle.calculus.specs.declared.rows.Row.{Row}
@@ -54,8 +54,8 @@ judged_row None p x e h later = later h
 walk_rows : (rows : List Row) (p : ℕ) (ws : List Want) (e : Refusal) → walk rows p ws ≡ Some e → (g : RowFault) × (q : ℕ) × (e ≡ AtRow g q)
 unfolding walk
 walk_rows [] p [] e h = let z : ◌≡◌ {A = ℕ} 0 1 = cc in absurd (omega arith)
-walk_rows [] p (w ∷ ws) e h = at_row row-fault.Ends p e h
-walk_rows (r ∷ rs) p [] e h = at_row row-fault.Left p e h
+walk_rows [] p (w ∷ ws) e h = at_row row_fault.Ends p e h
+walk_rows (r ∷ rs) p [] e h = at_row row_fault.Left p e h
 walk_rows (r ∷ rs) p (w ∷ ws) e h = judged_row (judge r w) p _ e h (walk_rows rs (p + 1) (follows r w ++ ws) e)
 
 module _ (room used : Counts) (rows : List Row) (g : ℕ) where

@@ -4,7 +4,7 @@ use Rattle.std.proofs.lemmas.Bool.{cond-true}
 use Rattle.calculus.specs.Text.{Text}
 use Rattle.store.specs.Meaning.{Meaning}
 use Rattle.machine_model.specs.declared.answers.RunAnswer.{RunAnswer}
-use Rattle.machine_model.specs.declared.answers.RunAnswer.TheVariants as run-answer
+use Rattle.machine_model.specs.declared.answers.RunAnswer.TheVariants as run_answer
 use Rattle.machine_model.specs.declared.answers.Stop.{Stop}
 use Rattle.machine_model.specs.declared.answers.Stop.TheVariants as stop
 use Rattle.machine_model.specs.declared.state.Progress.{Progress}
@@ -60,10 +60,10 @@ module _ (s : Session) (R : Reference) (a : Agrees s R) where
     agrees : Agrees (with_machine s z.state z.store) next
 
   begun_after : (x : RunAnswer) (s₂ : Session) (R₂ : Reference) (σ : TreeStore) (F : Framed) → Begun s₂ R₂ σ F → ProgramAgrees (states.progress_after x) s₂ R₂ σ F
-  begun_after run-answer.NotRunning s₂ R₂ σ F h = h
-  begun_after (run-answer.Done v r) s₂ R₂ σ F h = h
-  begun_after (run-answer.Paused r) s₂ R₂ σ F h = h
-  begun_after (run-answer.Refused f p r) s₂ R₂ σ F h = h
+  begun_after run_answer.NotRunning s₂ R₂ σ F h = h
+  begun_after (run_answer.Done v r) s₂ R₂ σ F h = h
+  begun_after (run_answer.Paused r) s₂ R₂ σ F h = h
+  begun_after (run_answer.Refused f p r) s₂ R₂ σ F h = h
 
   holds_begun : (b : Begun s R a.store a.framed) → Holds T R.limits R.allowance t m b.state a.store a.trial R.kinds
   holds_begun b =
