@@ -1,4 +1,4 @@
-use Rattle.std.proofs.Common.{◌≡◌, Some, None, Result, MatchOption, subst}
+use Rattle.std.proofs.Common.{◌≡◌, None, Result, MatchOption, subst}
 use Rattle.std.specs.Result.{result_ok}
 use Rattle.words.proofs.numbers.natural_of.Goals as goal
 
