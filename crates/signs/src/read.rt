@@ -1,6 +1,6 @@
 //! Words as rows and values.
-ghost use Rattle.std.specs.Prelude.{◌≡◌, ◌+◌, ◌<◌, length, take, drop, Some, None, MatchOption};
-ghost use Rattle.signs.specs.Reading.{numbered_in, labelled_in, bare_in, cut, fields_in, spelled_in, row_in, value_in};
+ghost use Rattle.std.specs.Prelude.{◌≡◌, Some, None, MatchOption, position};
+ghost use Rattle.signs.specs.Reading.{numbered_in, labelled_in, bare_in, is_stroke, cut, fields_in, spelled_in, row_in, value_in};
 
 use calculus::rows::{CLONE, FIGURE, LET, METHOD, OBJECT, Row, SELECT, UPDATE, VARIABLE};
 use calculus::values::Value;
@@ -46,29 +46,29 @@ fn bare(kind: u8, field: &[u8]) -> Option<Row>
 
 /// Where the first stroke stands, if there is one.
 fn stroke(word: &[u8]) -> Option<usize>
+    ensures { result ≡ position is_stroke word.now }
+{
+    word.iter().position(|byte| *byte == b'/')
+}
+
+/// What stands before the first stroke, and behind it, if there is one.
+fn cut(word: &[u8]) -> Option<(&[u8], &[u8])>
     ensures { MatchOption result
         (cut word.now ≡ None)
-        (λ i. (i < length word.now) × (cut word.now ≡ Some (take i word.now, drop (i + 1) word.now))) }
+        (λ p. cut word.now ≡ Some (p.0.now, p.1.now)) }
 {
-    for (i, byte) in word.iter().enumerate() {
-        if *byte == b'/' {
-            return Some(i);
-        }
-    }
-    None
+    let at = stroke(word)?;
+    Some((&word[..at], &word[at + 1..]))
 }
 
 /// A row of these fields.
 fn row_of(kind: &[u8], label: &[u8], number: &[u8]) -> Option<Row>
     ensures { result ≡ fields_in kind.now label.now number.now }
 {
-    let kind = natural_8(kind)?;
-    let label = natural_16(label)?;
-    let number = integer(number)?;
     Some(Row {
-        kind,
-        label,
-        number,
+        kind: natural_8(kind)?,
+        label: natural_16(label)?,
+        number: integer(number)?,
     })
 }
 
@@ -76,10 +76,9 @@ fn row_of(kind: &[u8], label: &[u8], number: &[u8]) -> Option<Row>
 fn spelled_out(word: &[u8]) -> Option<Row>
     ensures { result ≡ spelled_in word.now }
 {
-    let first = stroke(word)?;
-    let rest = &word[first + 1..];
-    let second = stroke(rest)?;
-    row_of(&word[0..first], &rest[0..second], &rest[second + 1..])
+    let (kind, rest) = cut(word)?;
+    let (label, number) = cut(rest)?;
+    row_of(kind, label, number)
 }
 
 /// A row: a sign with its field, or spelled out.
