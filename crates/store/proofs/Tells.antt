@@ -1,6 +1,6 @@
 -- From what a store's entries say of its meaning, what each call is to answer and to leave.
-use Rattle.std.proofs.Common.{◌≡◌, ℕ, ◌+◌, ◌<◌, ◌≤◌, List, [], ◌∷◌, ◌++◌, length, get_or, set, Some, None, Ok, Err, Result, sym, ap, ◌∙◌, arith}
-use Rattle.calculus.specs.Places.{nth, if_some}
+use Rattle.std.proofs.Common.{slice_get, ◌≡◌, ℕ, ◌+◌, ◌<◌, ◌≤◌, List, [], ◌∷◌, ◌++◌, length, get_or, set, Some, None, Ok, Err, Result, sym, ap, ◌∙◌, arith}
+use Rattle.calculus.specs.Places.{if_some}
 use Rattle.calculus.specs.declared.code.MethodEntry.{MethodEntry}
 use Rattle.store.specs.declared.closures.Closure.{Closure}
 use Rattle.store.specs.declared.closures.Method.{Method}
@@ -18,8 +18,8 @@ pub record Tells (m : Meaning) (n used : ℕ) (span : ℕ → Span) (ms : List M
   pub is_plain : m.trial ≡ no_trial
   pub count_is : length m.objects ≡ n
   pub total_is : total m.objects ≡ used
-  pub object_at : (l : ℕ) → l < n → Some (part ms (span l)) ≡ nth m.objects l
-  pub none_at : (l : ℕ) → n ≤ l → None ≡ nth m.objects l
+  pub object_at : (l : ℕ) → l < n → Some (part ms (span l)) ≡ slice_get m.objects l
+  pub none_at : (l : ℕ) → n ≤ l → None ≡ slice_get m.objects l
   pub within : (l : ℕ) → l < n → (span l).first + (span l).size ≤ used
   pub fits : used ≤ length ms
 

@@ -6,7 +6,7 @@ ghost use Rattle.store.specs.Meaning.{place_from};
 
 use crate::closures::Method;
 use calculus::lookup::entry_at;
-use calculus::stack::MOST_ENTRIES;
+use calculus::stack::counted_len;
 
 /// A stretch of a method area: its first entry, and how many there are.
 #[derive(Clone, Copy)]
@@ -19,11 +19,7 @@ pub struct Span {
 pub fn limit(len: usize) -> u32
     ensures { result ≡ counted len }
 {
-    if len < MOST_ENTRIES {
-        len as u32
-    } else {
-        MOST_ENTRIES as u32
-    }
+    counted_len(len)
 }
 
 /// The place, from 0, of the first method with the label in a stretch of the methods.

@@ -83,8 +83,6 @@ impl<'a> Iterator for Words<'a> {
 }
 
 /// The law of words: what blanks part, and nothing else.
-pub fn words_are_parted() -> u8
+pub fn words_are_parted()
     ensures { Parted }
-{
-    0
-}
+{}
