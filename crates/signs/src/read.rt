@@ -1,47 +1,31 @@
 //! Words as rows and values.
 ghost use Rattle.std.specs.Prelude.{◌≡◌, Some, None, MatchOption, position};
+ghost use Rattle.calculus.specs.Kinds.{kind_number};
 ghost use Rattle.signs.specs.Reading.{numbered_in, labelled_in, bare_in, is_stroke, cut, fields_in, spelled_in, row_in, value_in};
 
-use calculus::rows::{CLONE, FIGURE, LET, METHOD, OBJECT, Row, SELECT, UPDATE, VARIABLE};
+use calculus::rows::{Row, RowKind};
 use calculus::values::Value;
 use words::numbers::{integer, natural_8, natural_16, natural_32};
 
 /// A row of this kind whose field is its number.
-fn numbered(kind: u8, field: &[u8]) -> Option<Row>
-    ensures { result ≡ numbered_in kind field.now }
+fn numbered(kind: RowKind, field: &[u8]) -> Option<Row>
+    ensures { result ≡ numbered_in (kind_number kind) field.now }
 {
-    let number = integer(field)?;
-    Some(Row {
-        kind,
-        label: 0,
-        number,
-    })
+    Some(Row::new(kind, 0, integer(field)?))
 }
 
 /// A row of this kind whose field is its label.
-fn labelled(kind: u8, field: &[u8]) -> Option<Row>
-    ensures { result ≡ labelled_in kind field.now }
+fn labelled(kind: RowKind, field: &[u8]) -> Option<Row>
+    ensures { result ≡ labelled_in (kind_number kind) field.now }
 {
-    let label = natural_16(field)?;
-    Some(Row {
-        kind,
-        label,
-        number: 0,
-    })
+    Some(Row::new(kind, natural_16(field)?, 0))
 }
 
 /// A row of this kind, which has no field.
-fn bare(kind: u8, field: &[u8]) -> Option<Row>
-    ensures { result ≡ bare_in kind field.now }
+fn bare(kind: RowKind, field: &[u8]) -> Option<Row>
+    ensures { result ≡ bare_in (kind_number kind) field.now }
 {
-    if field.len() > 0 {
-        return None;
-    }
-    Some(Row {
-        kind,
-        label: 0,
-        number: 0,
-    })
+    field.is_empty().then(|| Row::new(kind, 0, 0))
 }
 
 /// Where the first stroke stands, if there is one.
@@ -86,14 +70,14 @@ pub fn read_row(word: &[u8]) -> Option<Row>
     ensures { result ≡ row_in word.now }
 {
     match word {
-        [b'V', field @ ..] => numbered(VARIABLE, field),
-        [b'F', field @ ..] => numbered(FIGURE, field),
-        [b'O', field @ ..] => numbered(OBJECT, field),
-        [b'S', field @ ..] => labelled(SELECT, field),
-        [b'U', field @ ..] => labelled(UPDATE, field),
-        [b'C', field @ ..] => bare(CLONE, field),
-        [b'L', field @ ..] => bare(LET, field),
-        [b'M', field @ ..] => labelled(METHOD, field),
+        [b'V', field @ ..] => numbered(RowKind::Variable, field),
+        [b'F', field @ ..] => numbered(RowKind::Figure, field),
+        [b'O', field @ ..] => numbered(RowKind::Object, field),
+        [b'S', field @ ..] => labelled(RowKind::Select, field),
+        [b'U', field @ ..] => labelled(RowKind::Update, field),
+        [b'C', field @ ..] => bare(RowKind::Clone, field),
+        [b'L', field @ ..] => bare(RowKind::Let, field),
+        [b'M', field @ ..] => labelled(RowKind::Method, field),
         _ => spelled_out(word),
     }
 }
