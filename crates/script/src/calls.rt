@@ -70,24 +70,30 @@ impl fmt::Display for Expected {
     ghost output = { λ e. Some (expected_text e) };
 
     fn fmt<W: fmt::Write>(&self, f: &mut fmt::Formatter<W>) -> fmt::Result {
-        f.write_str(match self {
-            Expected::Keyword => "a setting (store, lengths) or a call (check, compile, list, code, start, run, open, keep, put-back, objects)",
-            Expected::StoreKind => "flat, sharing, trial flat, trial sharing or trial trial sharing",
+        let text = match self {
+            Expected::Keyword =>
+                "a setting (store, lengths) or a call (check, compile, list, code, start, run, open, keep, put-back, objects)",
+            Expected::StoreKind =>
+                "flat, sharing, trial flat, trial sharing or trial trial sharing",
             Expected::SettingOnce => "each setting at most once",
             Expected::SettingFirst => "settings before the first call only",
-            Expected::AreaName => "an area's name: contents, operations, methods, cells, frames, objects or slots",
+            Expected::AreaName =>
+                "an area's name: contents, operations, methods, cells, frames, objects or slots",
             Expected::AreaOnce => "each area's name at most once",
             Expected::AreaLength => "the area's length, from 0 to 4294967295",
             Expected::Givens => "the number of givens, from 0 to 4294967295",
-            Expected::Row => "a row: V, F or O with a signed number, S, U or M with a label from 0 to 65535, C, L, or KIND/LABEL/NUMBER",
+            Expected::Row =>
+                "a row: V, F or O with a signed number, S, U or M with a label from 0 to 65535, C, L, or KIND/LABEL/NUMBER",
             Expected::Program => "a program's number, from 0 to 4294967295",
             Expected::Allowance => "an allowance of reductions, from 0 to 4294967295",
             Expected::Value => "a value: a signed number, or @ and a location",
             Expected::Reductions => "a number of reductions, from 0 to 4294967295",
             Expected::Trial => "a trial's number, from 0 to 4294967295",
-            Expected::TrialLayer => "a store that is a trial layer (set it by 'store trial flat', say)",
+            Expected::TrialLayer =>
+                "a store that is a trial layer (set it by 'store trial flat', say)",
             Expected::LineEnd => "nothing more on this line",
-        })
+        };
+        f.write_str(text)
     }
 }
 

@@ -2,7 +2,7 @@
 ghost use Rattle.std.specs.Prelude.{◌≡◌, refl};
 ghost use Rattle.script.specs.Keywords.{keywords, keyword_in, wants_trials};
 
-use crate::named::{Named, OfWord, named};
+use crate::named::{Named, OfWord, by_name};
 
 /// What a call does in a trial layer.
 #[derive(Clone, Copy)]
@@ -70,6 +70,6 @@ impl OfWord for Keyword {
     ghost in_word = { keyword_in };
 
     fn of_word(word: &[u8]) -> Option<Keyword> {
-        named(word)
+        by_name(word)
     }
 }

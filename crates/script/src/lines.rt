@@ -10,8 +10,8 @@ use crate::settings::{Area, Lengths, Settings, StoreKind, StoreWord};
 use std::alloc::Global;
 use words::words::{Words, without_end};
 
-/// The next word, read.
-fn next<T: OfWord>(words: &mut Words<'_>, what: Expected) -> Result<T, Expected>
+/// The next word, as what is expected there.
+fn expect<T: OfWord>(words: &mut Words<'_>, what: Expected) -> Result<T, Expected>
     ensures value { result ≡ first_in T.in_word what (left words.old) }
     ensures rest { left words.new ≡ drop 1 (left words.old) }
 {
@@ -23,7 +23,7 @@ fn next<T: OfWord>(words: &mut Words<'_>, what: Expected) -> Result<T, Expected>
 
 /// This, where no word is left.
 fn alone<T: Drop>(words: Words<'_>, x: T) -> Result<T, Expected>
-    ensures { result ≡ alone x (left words) }
+    ensures { result ≡ alone x (left words.entry) }
 {
     if words.is_empty() {
         Ok(x)
@@ -34,15 +34,15 @@ fn alone<T: Drop>(words: Words<'_>, x: T) -> Result<T, Expected>
 
 /// The next word as a number, and no more.
 fn only_number(mut words: Words<'_>, what: Expected) -> Result<u32, Expected>
-    ensures { result ≡ one_number_in what (left words) }
+    ensures { result ≡ one_number_in what (left words.entry) }
 {
-    let n = next(&mut words, what)?;
+    let n = expect(&mut words, what)?;
     alone(words, n)
 }
 
 /// All words that are left, read alike.
 fn all<T: OfWord + Drop>(heap: Global, words: Words<'_>, what: Expected) -> Result<Vec<T>, Unread>
-    ensures { Reads vec_items (all_in T.in_word what (left words)) result }
+    ensures { Reads vec_items (all_in T.in_word what (left words.entry)) result }
 {
     let mut all = Vec::new(heap);
     for word in words {
@@ -53,9 +53,9 @@ fn all<T: OfWord + Drop>(heap: Global, words: Words<'_>, what: Expected) -> Resu
 
 /// The kind of store whose name goes on behind two layers.
 fn two_layers(mut words: Words<'_>) -> Result<StoreKind, Expected>
-    ensures { result ≡ under_two (left words) }
+    ensures { result ≡ under_two (left words.entry) }
 {
-    match next(&mut words, Expected::StoreKind)? {
+    match expect(&mut words, Expected::StoreKind)? {
         StoreWord::Sharing => alone(words, StoreKind::TrialTrialSharing),
         StoreWord::Flat | StoreWord::Trial => Err(Expected::StoreKind),
     }
@@ -63,9 +63,9 @@ fn two_layers(mut words: Words<'_>) -> Result<StoreKind, Expected>
 
 /// The kind of store whose name goes on behind one layer.
 fn one_layer(mut words: Words<'_>) -> Result<StoreKind, Expected>
-    ensures { result ≡ under_one (left words) }
+    ensures { result ≡ under_one (left words.entry) }
 {
-    match next(&mut words, Expected::StoreKind)? {
+    match expect(&mut words, Expected::StoreKind)? {
         StoreWord::Flat => alone(words, StoreKind::TrialFlat),
         StoreWord::Sharing => alone(words, StoreKind::TrialSharing),
         StoreWord::Trial => two_layers(words),
@@ -74,9 +74,9 @@ fn one_layer(mut words: Words<'_>) -> Result<StoreKind, Expected>
 
 /// The kind of store that the words that are left name.
 fn store_kind(mut words: Words<'_>) -> Result<StoreKind, Expected>
-    ensures { result ≡ store_in (left words) }
+    ensures { result ≡ store_in (left words.entry) }
 {
-    match next(&mut words, Expected::StoreKind)? {
+    match expect(&mut words, Expected::StoreKind)? {
         StoreWord::Flat => alone(words, StoreKind::Flat),
         StoreWord::Sharing => alone(words, StoreKind::Sharing),
         StoreWord::Trial => one_layer(words),
@@ -96,7 +96,7 @@ fn new_area(lengths: Lengths, word: &[u8]) -> Result<Area, Expected>
 
 /// The lengths that the words that are left name.
 fn named_lengths(mut words: Words<'_>) -> Result<Lengths, Expected>
-    ensures { result ≡ lengths_in (left words) }
+    ensures { result ≡ lengths_in (left words.entry) }
 {
     if words.is_empty() {
         return Err(Expected::AreaName);
@@ -104,7 +104,7 @@ fn named_lengths(mut words: Words<'_>) -> Result<Lengths, Expected>
     let mut lengths = Lengths::none();
     while let Some(word) = words.next() {
         let area = new_area(lengths, word)?;
-        let length = next(&mut words, Expected::AreaLength)?;
+        let length = expect(&mut words, Expected::AreaLength)?;
         lengths = lengths.with(area, length);
     }
     Ok(lengths)
@@ -125,7 +125,7 @@ fn may_set(settings: Settings, is_set: bool) -> Result<(), Expected>
 
 /// The settings with the store that the words that are left name.
 fn store_line(settings: Settings, words: Words<'_>) -> Result<Settings, Expected>
-    ensures { result ≡ store_line settings (left words) }
+    ensures { result ≡ store_line settings (left words.entry) }
 {
     may_set(settings, settings.store.is_some())?;
     Ok(Settings {
@@ -136,7 +136,7 @@ fn store_line(settings: Settings, words: Words<'_>) -> Result<Settings, Expected
 
 /// The settings with the lengths that the words that are left name.
 fn lengths_line(settings: Settings, words: Words<'_>) -> Result<Settings, Expected>
-    ensures { result ≡ lengths_line settings (left words) }
+    ensures { result ≡ lengths_line settings (left words.entry) }
 {
     may_set(settings, settings.lengths.is_some())?;
     Ok(Settings {
@@ -147,7 +147,7 @@ fn lengths_line(settings: Settings, words: Words<'_>) -> Result<Settings, Expect
 
 /// The trial call of a verb, and of the words that are left.
 fn trial_call(verb: TrialVerb, words: Words<'_>) -> Result<TrialCall, Expected>
-    ensures { result ≡ trial_call_in verb (left words) }
+    ensures { result ≡ trial_call_in verb (left words.entry) }
 {
     match verb {
         TrialVerb::Open => alone(words, TrialCall::Open),
@@ -162,57 +162,39 @@ fn trial_call(verb: TrialVerb, words: Words<'_>) -> Result<TrialCall, Expected>
 
 /// The call of a verb, and of the words that are left.
 fn call_of(heap: Global, verb: Verb, mut words: Words<'_>) -> Result<Call, Unread>
-    ensures { Reads asked (call_in verb (left words)) result }
+    ensures { Reads asked (call_in verb (left words.entry)) result }
 {
     match verb {
-        Verb::Check => {
-            let givens = next(&mut words, Expected::Givens)?;
-            let rows = all(heap, words, Expected::Row)?;
-            Ok(Call::Check { givens, rows })
-        }
-        Verb::Compile => {
-            let givens = next(&mut words, Expected::Givens)?;
-            let rows = all(heap, words, Expected::Row)?;
-            Ok(Call::Compile { givens, rows })
-        }
-        Verb::List => {
-            let program = only_number(words, Expected::Program)?;
-            Ok(Call::List { program })
-        }
-        Verb::Code => {
-            let program = only_number(words, Expected::Program)?;
-            Ok(Call::Code { program })
-        }
-        Verb::Start => {
-            let program = next(&mut words, Expected::Program)?;
-            let allowance = next(&mut words, Expected::Allowance)?;
-            let values = all(heap, words, Expected::Value)?;
-            Ok(Call::Start {
-                program,
-                allowance,
-                values,
-            })
-        }
-        Verb::Run => {
-            let reductions = only_number(words, Expected::Reductions)?;
-            Ok(Call::Run { reductions })
-        }
+        Verb::Check => Ok(Call::Check {
+            givens: expect(&mut words, Expected::Givens)?,
+            rows: all(heap, words, Expected::Row)?,
+        }),
+        Verb::Compile => Ok(Call::Compile {
+            givens: expect(&mut words, Expected::Givens)?,
+            rows: all(heap, words, Expected::Row)?,
+        }),
+        Verb::List => Ok(Call::List {
+            program: only_number(words, Expected::Program)?,
+        }),
+        Verb::Code => Ok(Call::Code {
+            program: only_number(words, Expected::Program)?,
+        }),
+        Verb::Start => Ok(Call::Start {
+            program: expect(&mut words, Expected::Program)?,
+            allowance: expect(&mut words, Expected::Allowance)?,
+            values: all(heap, words, Expected::Value)?,
+        }),
+        Verb::Run => Ok(Call::Run {
+            reductions: only_number(words, Expected::Reductions)?,
+        }),
         Verb::Trial(verb) => Ok(Call::Trial(trial_call(verb, words)?)),
-        Verb::Objects => {
-            alone(words, ())?;
-            Ok(Call::Objects)
-        }
+        Verb::Objects => Ok(alone(words, Call::Objects)?),
     }
 }
 
 /// The call of a verb, if the store has what it asks for.
-fn call_over(
-    heap: Global,
-    store: StoreKind,
-    verb: Verb,
-    words: Words<'_>,
-) -> Result<Call, Unread>
-    ensures { Reads asked (call_over store verb (left words)) result }
+fn call_over(heap: Global, store: StoreKind, verb: Verb, words: Words<'_>) -> Result<Call, Unread>
+    ensures { Reads asked (call_over store verb (left words.entry)) result }
 {
     let call = call_of(heap, verb, words)?;
     if verb.wants_trials() && !store.has_trials() {

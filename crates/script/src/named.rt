@@ -55,7 +55,7 @@ pub(crate) trait Named: Sized {
 }
 
 /// What a word is the name of.
-pub(crate) fn named<N: Named>(word: &[u8]) -> Option<N>
+pub(crate) fn by_name<N: Named>(word: &[u8]) -> Option<N>
     ensures { result ≡ named N.names word.now }
 {
     N::of_name(std::str::from_utf8(word).ok()?)

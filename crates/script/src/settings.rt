@@ -2,7 +2,7 @@
 ghost use Rattle.std.specs.Prelude.{◌≡◌, ◌<◌, refl};
 ghost use Rattle.script.specs.Settings.{has_trials, store_words, store_word_in, areas, area_in, place, none_set, set_of, with_length, at_start, store_of, length_of};
 
-use crate::named::{Named, OfWord, named};
+use crate::named::{Named, OfWord, by_name};
 
 /// The kind of store that a session runs over.
 #[derive(Clone, Copy)]
@@ -50,7 +50,7 @@ impl OfWord for StoreWord {
     ghost in_word = { store_word_in };
 
     fn of_word(word: &[u8]) -> Option<StoreWord> {
-        named(word)
+        by_name(word)
     }
 }
 
@@ -99,12 +99,12 @@ impl OfWord for Area {
     ghost in_word = { area_in };
 
     fn of_word(word: &[u8]) -> Option<Area> {
-        named(word)
+        by_name(word)
     }
 }
 
 /// The lengths that a line sets: of the areas that it names, each by its place.
-#[derive(Clone, Copy, Default)]
+#[derive(Clone, Copy)]
 pub struct Lengths {
     set: [Option<u32>; 7],
 }
