@@ -7,7 +7,6 @@ use Rattle.calculus.specs.declared.code.MethodEntry.{MethodEntry}
 use Rattle.calculus.specs.declared.code.Counts.{Counts}
 use Rattle.calculus.specs.declared.refusals.Place.{Place}
 use Rattle.calculus.specs.declared.refusals.Place.TheVariants.{Whole, Row, Operation as At}
-use Rattle.calculus.specs.declared.code.Counts.{Counts}
 use Rattle.calculus.specs.Refusals.{number_of, place_of}
 use Rattle.signs.specs.Writing.{value_text}
 use Rattle.machine_model.specs.declared.answers.RunAnswer.{RunAnswer}

@@ -4,7 +4,6 @@ ghost use Rattle.answers.specs.declared.answers.Refused.TheVariants as refused;
 ghost use Rattle.answers.specs.Texts.{place_text, report_text, sizes_text, run_text, answer_text, refusal_text};
 
 use calculus::code::Counts;
-use calculus::code::Counts;
 use calculus::refusals::{Place, Refusal};
 use machine_model::answers::RunAnswer;
 use machine_model::state::Report;
@@ -54,15 +53,10 @@ impl fmt::Display for Refused {
 
     fn fmt<W: fmt::Write>(&self, f: &mut fmt::Formatter<W>) -> fmt::Result {
         match *self {
-            Refused::Call(refusal) => {
-                write!(
-                    f,
-                    "refused {} at {}",
-                    refusal.number(),
-                    PlaceText(refusal.place())
-                )
+            Refused::Call(why) => {
+                write!(f, "refused {} at {}", why.number(), PlaceText(why.place()))
             }
-            Refused::Trial(fault) => write!(f, "refused {} at 0", fault.number()),
+            Refused::Trial(why) => write!(f, "refused {} at 0", why.number()),
         }
     }
 }
