@@ -200,8 +200,18 @@ mod tests {
             )
         );
         assert!(rt; matches!(call(heap, b"open")?, Call::Trial(TrialCall::Open)));
-        assert!(rt; matches!(call(heap, b"keep 1")?, Call::Trial(TrialCall::Keep { trial: 1 })));
-        assert!(rt; matches!(call(heap, b"put-back 0")?, Call::Trial(TrialCall::PutBack { trial: 0 })));
+        assert!(rt;
+            matches!(
+                call(heap, b"keep 1")?,
+                Call::Trial(TrialCall::Keep { trial: 1 })
+            )
+        );
+        assert!(rt;
+            matches!(
+                call(heap, b"put-back 0")?,
+                Call::Trial(TrialCall::PutBack { trial: 0 })
+            )
+        );
         assert!(rt; matches!(call(heap, b"objects")?, Call::Objects));
         Ok(())
     }
