@@ -4,18 +4,20 @@ use Rattle.std.specs.Fmt.{signed_decimal}
 use Rattle.calculus.specs.declared.code.Operation.{Operation}
 use Rattle.calculus.specs.declared.code.Operation.TheVariants as op
 use Rattle.calculus.specs.declared.code.MethodEntry.{MethodEntry}
+use Rattle.calculus.specs.declared.code.Counts.{Counts}
 use Rattle.calculus.specs.declared.refusals.Place.{Place}
 use Rattle.calculus.specs.declared.refusals.Place.TheVariants.{Whole, Row, Operation as At}
-use Rattle.calculus.specs.declared.code.Counts.{Counts}
 use Rattle.calculus.specs.Refusals.{number_of, place_of}
 use Rattle.signs.specs.Writing.{value_text}
 use Rattle.machine_model.specs.declared.answers.RunAnswer.{RunAnswer}
-use Rattle.machine_model.specs.declared.answers.RunAnswer.TheVariants.{NotRunning, Done, Paused, Refused}
+use Rattle.machine_model.specs.declared.answers.RunAnswer.TheVariants.{NotRunning, Done, Paused, Refused as Stopped}
 use Rattle.machine_model.specs.declared.state.Report.{Report}
 use Rattle.machine_model.specs.Answers.{fault_number}
 use Rattle.trial_layer.specs.Faults.{trial_number}
 use Rattle.answers.specs.declared.answers.Answer.{Answer}
 use Rattle.answers.specs.declared.answers.Answer.TheVariants as answer
+use Rattle.answers.specs.declared.answers.Refused.{Refused}
+use Rattle.answers.specs.declared.answers.Refused.TheVariants as refused
 
 abbrev pub place_text : Place → List ℕ
 place_text Whole = codes "0"
@@ -44,7 +46,7 @@ abbrev pub run_text : RunAnswer → List ℕ
 run_text NotRunning = codes "refused 18 at 0"
 run_text (Done v r) = codes "done " ++ (value_text v ++ (codes " " ++ report_text r))
 run_text (Paused r) = codes "paused " ++ report_text r
-run_text (Refused f p r) = codes "refused " ++ (decimal (fault_number f) ++ (codes " at " ++ (place_text p ++ (codes " " ++ report_text r))))
+run_text (Stopped f p r) = codes "refused " ++ (decimal (fault_number f) ++ (codes " at " ++ (place_text p ++ (codes " " ++ report_text r))))
 
 abbrev pub answer_text : Answer → List ℕ
 answer_text (answer.Sizes z) = sizes_text z
@@ -55,8 +57,10 @@ answer_text (answer.Trial n) = codes "trial " ++ decimal n
 answer_text answer.Kept = codes "kept"
 answer_text answer.Restored = codes "restored"
 answer_text answer.NoObjects = codes "no objects"
-answer_text (answer.Refused e) = refused_text (number_of e) (place_of e)
-answer_text (answer.TrialRefused e) = codes "refused " ++ (decimal (trial_number e) ++ codes " at 0")
+
+abbrev pub refusal_text : Refused → List ℕ
+refusal_text (refused.Call e) = refused_text (number_of e) (place_of e)
+refusal_text (refused.Trial e) = codes "refused " ++ (decimal (trial_number e) ++ codes " at 0")
 
 -- an operation, an object's methods apart
 abbrev pub operation_text : Operation → List ℕ

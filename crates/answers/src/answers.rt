@@ -1,6 +1,7 @@
 //! What the calls of a script answer.
-ghost use Rattle.std.specs.Prelude.{Some};
-ghost use Rattle.answers.specs.Texts.{place_text, report_text, sizes_text, run_text, answer_text};
+ghost use Rattle.std.specs.Prelude.{◌≡◌, Some};
+ghost use Rattle.answers.specs.declared.answers.Refused.TheVariants as refused;
+ghost use Rattle.answers.specs.Texts.{place_text, report_text, sizes_text, run_text, answer_text, refusal_text};
 
 use calculus::code::Counts;
 use calculus::refusals::{Place, Refusal};
@@ -10,7 +11,7 @@ use signs::write::ValueText;
 use std::fmt;
 use trial_layer::faults::TrialFault;
 
-/// The answer to a call, where it is one line.
+/// What a call answers that is accepted, where it is one line.
 #[derive(Clone, Copy)]
 pub enum Answer {
     Sizes(Counts),
@@ -21,11 +22,46 @@ pub enum Answer {
     Kept,
     Restored,
     NoObjects,
-    Refused(Refusal),
-    TrialRefused(TrialFault),
 }
 
-/// A place to be written.
+/// Why a call is refused.
+#[derive(Clone, Copy, PartialEq, Eq, Debug)]
+pub enum Refused {
+    Call(Refusal),
+    /// A call to a trial layer.
+    Trial(TrialFault),
+}
+
+impl From<Refusal> for Refused {
+    ghost from_gives = { λ refusal r. r ≡ refused.Call refusal };
+
+    fn from(refusal: Refusal) -> Refused {
+        Refused::Call(refusal)
+    }
+}
+
+impl From<TrialFault> for Refused {
+    ghost from_gives = { λ fault r. r ≡ refused.Trial fault };
+
+    fn from(fault: TrialFault) -> Refused {
+        Refused::Trial(fault)
+    }
+}
+
+impl fmt::Display for Refused {
+    ghost output = { λ e. Some (refusal_text e) };
+
+    fn fmt<W: fmt::Write>(&self, f: &mut fmt::Formatter<W>) -> fmt::Result {
+        match *self {
+            Refused::Call(why) => {
+                write!(f, "refused {} at {}", why.number(), PlaceText(why.place()))
+            }
+            Refused::Trial(why) => write!(f, "refused {} at 0", why.number()),
+        }
+    }
+}
+
+/// A place to be written. The calculus, whose type it is, knows nothing of a script's texts; so with each type here that holds but a value to be written.
 #[derive(Clone, Copy)]
 pub struct PlaceText(pub Place);
 
@@ -95,24 +131,20 @@ impl fmt::Display for RunText {
         match self.0 {
             RunAnswer::NotRunning => write!(f, "refused 18 at 0"),
             RunAnswer::Done { value, report } => {
-                let value = ValueText(value);
-                let report = ReportText(report);
-                write!(f, "done {value} {report}")
+                write!(f, "done {} {}", ValueText(value), ReportText(report))
             }
-            RunAnswer::Paused { report } => {
-                let report = ReportText(report);
-                write!(f, "paused {report}")
-            }
+            RunAnswer::Paused { report } => write!(f, "paused {}", ReportText(report)),
             RunAnswer::Refused {
                 fault,
                 place,
                 report,
-            } => {
-                let number = fault.number();
-                let place = PlaceText(place);
-                let report = ReportText(report);
-                write!(f, "refused {number} at {place} {report}")
-            }
+            } => write!(
+                f,
+                "refused {} at {} {}",
+                fault.number(),
+                PlaceText(place),
+                ReportText(report)
+            ),
         }
     }
 }
@@ -122,29 +154,14 @@ impl fmt::Display for Answer {
 
     fn fmt<W: fmt::Write>(&self, f: &mut fmt::Formatter<W>) -> fmt::Result {
         match *self {
-            Answer::Sizes(sizes) => {
-                let sizes = SizesText(sizes);
-                write!(f, "{sizes}")
-            }
+            Answer::Sizes(sizes) => write!(f, "{}", SizesText(sizes)),
             Answer::Program(number) => write!(f, "program {number}"),
             Answer::Started => write!(f, "started"),
-            Answer::Ran(answer) => {
-                let answer = RunText(answer);
-                write!(f, "{answer}")
-            }
+            Answer::Ran(answer) => write!(f, "{}", RunText(answer)),
             Answer::Trial(number) => write!(f, "trial {number}"),
             Answer::Kept => write!(f, "kept"),
             Answer::Restored => write!(f, "restored"),
             Answer::NoObjects => write!(f, "no objects"),
-            Answer::Refused(refusal) => {
-                let number = refusal.number();
-                let place = PlaceText(refusal.place());
-                write!(f, "refused {number} at {place}")
-            }
-            Answer::TrialRefused(fault) => {
-                let number = fault.number();
-                write!(f, "refused {number} at 0")
-            }
         }
     }
 }

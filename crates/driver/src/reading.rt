@@ -3,9 +3,11 @@ ghost use Rattle.std.specs.Prelude.{◌≡◌, IfErr};
 ghost use Rattle.std.specs.IoError.{error_kind};
 ghost use Rattle.std.specs.declared.io.ErrorKind.TheVariants.{OutOfMemory};
 
+use answers::answers::{Answer, Refused};
+use calculus::stack::MOST_ENTRIES;
 use script::calls::{Call, Unread};
 use script::lines::read_line;
-use script::settings::{Lengths, Settings, StoreKind};
+use script::settings::{Area, Settings, StoreKind};
 use std::alloc::Global;
 use std::io::{BufRead, BufReader, Lines, Stdin};
 use std::{fmt, io};
@@ -38,17 +40,32 @@ impl Script {
         self.rt.alloc()
     }
 
-    pub fn lengths(&self) -> Lengths {
-        self.settings.lengths
+    /// How long an area is made: a longer one counts as no longer.
+    pub fn length(&self, area: Area) -> usize {
+        (self.settings.length(area) as usize).min(MOST_ENTRIES)
     }
 
     pub fn store_kind(&self) -> StoreKind {
-        self.settings.store
+        self.settings.store()
     }
 
     /// Prints one line.
     pub fn print<T: fmt::Display + Drop>(&self, text: T) -> io::Result<()> {
         self.rt.println(text)
+    }
+
+    /// Prints why a call is refused.
+    pub fn print_refused<E: Into<Refused>>(&self, error: E) -> io::Result<()> {
+        let refused: Refused = error.into();
+        self.print(refused)
+    }
+
+    /// Prints what a call answers.
+    pub fn print_answer<E: Into<Refused>>(&self, answer: Result<Answer, E>) -> io::Result<()> {
+        match answer {
+            Ok(answer) => self.print(answer),
+            Err(error) => self.print_refused(error),
+        }
     }
 
     /// The next call, past settings, comments and empty lines; none at the end of the script.

@@ -12,7 +12,8 @@ use session::session::Session;
 use signs::write::{RowText, ValueText};
 use std::alloc::AllocError;
 use std::fmt::Write;
-use std::io;
+use std::iter::{Skip, Take};
+use std::{io, slice};
 use store::closures::Method;
 use store::store::Store;
 
@@ -20,47 +21,31 @@ use store::store::Store;
 pub fn print_rows(script: &Script, rows: &[Row], count: usize) -> io::Result<()> {
     let mut line = String::from_str(script.heap(), "rows")?;
     for row in rows.iter().take(count) {
-        let row = RowText(*row);
-        line.push_str(" ")?;
-        line.push_str(row.to_string(script.heap())?.as_str())?;
+        write!(line, " {}", RowText(*row))?;
     }
     script.print(line)
 }
 
-/// An object operation's methods, each ` LABEL:LIST`.
-fn push_methods(
-    script: &Script,
-    line: &mut String,
-    code: &Code<'_>,
-    first: u32,
-    count: u32,
-) -> Result<(), AllocError> {
-    for i in 0..count as usize {
-        if let Some(entry) = entry_at(code.methods, first as usize + i) {
-            let entry = MethodText(entry);
-            line.push_str(entry.to_string(script.heap())?.as_str())?;
-        }
-    }
-    Ok(())
+/// So many entries of a table from the first on, as far as they are there.
+fn part<T>(entries: &[T], first: u32, count: u32) -> Take<Skip<slice::Iter<'_, T>>> {
+    entries.iter().skip(first as usize).take(count as usize)
 }
 
-/// `list K: OP, OP, ..`
+/// `list K: OP, OP, ..`, each method of an object ` LABEL:LIST` behind it.
 fn list_line(
     script: &Script,
     code: &Code<'_>,
     number: usize,
     entry: ListEntry,
 ) -> Result<String, AllocError> {
-    let heap = script.heap();
-    let mut line = format!(in heap; "list {number}:")?;
-    for i in 0..entry.len as usize {
-        let Some(operation) = entry_at(code.operations, entry.first as usize + i) else {
-            return Ok(line);
-        };
+    let mut line = format!(in script.heap(); "list {number}:")?;
+    for (i, operation) in part(code.operations, entry.first, entry.len).enumerate() {
         line.push_str(if i == 0 { " " } else { ", " })?;
-        line.push_str(OperationText(operation).to_string(heap)?.as_str())?;
-        if let Operation::Object { first, count } = operation {
-            push_methods(script, &mut line, code, first, count)?;
+        write!(line, "{}", OperationText(*operation))?;
+        if let Operation::Object { first, count } = *operation {
+            for entry in part(code.methods, first, count) {
+                write!(line, "{}", MethodText(*entry))?;
+            }
         }
     }
     Ok(line)
@@ -73,20 +58,18 @@ pub fn print_code<S: Store>(
     program: u32,
 ) -> io::Result<()> {
     let Some(code) = session.code() else {
-        return script.print(Answer::Refused(Refusal::CountOutside));
+        return script.print_refused(Refusal::CountOutside);
     };
-    match entry_at(code.contents, program as usize) {
-        Some(entry) if entry.mark > 0 => {
-            script.print(list_line(script, &code, program as usize, entry)?)?
-        }
-        _ => return script.print(Answer::Refused(Refusal::NoProgram)),
+    let number = program as usize;
+    match entry_at(code.contents, number) {
+        Some(entry) if entry.mark > 0 => script.print(list_line(script, &code, number, entry)?)?,
+        _ => return script.print_refused(Refusal::NoProgram),
     }
-    for number in program as usize + 1..code.contents.len() {
-        let entry = code.contents[number];
+    for (number, entry) in code.contents.iter().enumerate().skip(number + 1) {
         if entry.mark > 0 {
             return Ok(());
         }
-        script.print(list_line(script, &code, number, entry)?)?;
+        script.print(list_line(script, &code, number, *entry)?)?;
     }
     Ok(())
 }
@@ -101,7 +84,6 @@ fn first_cell<S: Store>(session: &Session<'_, S>, env: u32) -> Option<Cell> {
 
 /// The values of an environment, the nearest first, parted by blanks.
 fn push_values<S: Store>(
-    script: &Script,
     line: &mut String,
     session: &Session<'_, S>,
     env: u32,
@@ -114,7 +96,7 @@ fn push_values<S: Store>(
         if i > 0 {
             line.push_str(" ")?;
         }
-        line.push_str(ValueText(cell.value).to_string(script.heap())?.as_str())?;
+        write!(line, "{}", ValueText(cell.value))?;
         env = cell.parent;
     }
     Ok(())
@@ -126,8 +108,7 @@ fn object_line<S: Store>(
     session: &Session<'_, S>,
     location: u32,
 ) -> Result<String, AllocError> {
-    let heap = script.heap();
-    let mut line = format!(in heap; "object {location}:")?;
+    let mut line = format!(in script.heap(); "object {location}:")?;
     let Ok(size) = session.size(location) else {
         return Ok(line);
     };
@@ -136,9 +117,8 @@ fn object_line<S: Store>(
             return Ok(line);
         };
         let Method { label, closure } = method;
-        let list = closure.list;
-        line.push_str(format!(in heap; " {label}=list {list} over [")?.as_str())?;
-        push_values(script, &mut line, session, closure.env)?;
+        write!(line, " {label}=list {} over [", closure.list)?;
+        push_values(&mut line, session, closure.env)?;
         line.push_str("]")?;
     }
     Ok(line)

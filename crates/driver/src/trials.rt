@@ -1,62 +1,73 @@
 //! The trial calls, over each kind of store.
-use answers::answers::Answer;
-use flat_store::table::FlatStore;
-use script::calls::Call;
+use answers::answers::{Answer, Refused};
+use script::calls::TrialCall;
 use session::session::Session;
-use sharing_store::table::SharingStore;
 use store::store::Store;
 use trial_layer::faults::TrialFault;
 use trial_layer::layer::TrialLayer;
 use trial_layer::token::Token;
 
-/// A store with what a session over it answers to the trial calls: none of them where it is no trial layer.
-pub trait TrialCalls: Store + Sized {
-    /// What is held between the calls: the token of the trial that the script opened.
-    type Held;
+/// What is held between the trial calls of a script, over a kind of store.
+pub trait Trials<S: Store>: Sized {
+    /// Before the first call no trial is open.
+    fn none_open() -> Self;
 
-    fn nothing_held() -> Self::Held;
-
-    /// The answer to a trial call.
-    fn trial_call(
-        session: &mut Session<'_, Self>,
-        held: Self::Held,
-        call: &Call,
-    ) -> (Option<Answer>, Self::Held);
+    /// The answer to a trial call; none where the store is no trial layer.
+    fn call(
+        &mut self,
+        session: &mut Session<'_, S>,
+        call: TrialCall,
+    ) -> Option<Result<Answer, Refused>>;
 
     /// A trial that is still open when the script ends is kept.
-    fn finish(session: &mut Session<'_, Self>, held: Self::Held);
+    fn finish(self, session: &mut Session<'_, S>);
 }
 
-impl<'s> TrialCalls for FlatStore<'s> {
-    type Held = ();
+/// A store that is no trial layer has none.
+#[derive(Drop)]
+pub struct NoTrials;
 
-    fn nothing_held() {}
-
-    fn trial_call(
-        _session: &mut Session<'_, FlatStore<'s>>,
-        _held: (),
-        _call: &Call,
-    ) -> (Option<Answer>, ()) {
-        (None, ())
+impl<S: Store> Trials<S> for NoTrials {
+    fn none_open() -> NoTrials {
+        NoTrials
     }
 
-    fn finish(_session: &mut Session<'_, FlatStore<'s>>, _held: ()) {}
+    fn call(
+        &mut self,
+        _session: &mut Session<'_, S>,
+        _call: TrialCall,
+    ) -> Option<Result<Answer, Refused>> {
+        None
+    }
+
+    fn finish(self, _session: &mut Session<'_, S>) {}
 }
 
-impl<'s> TrialCalls for SharingStore<'s> {
-    type Held = ();
+/// The token of the trial that the script opened, if it is open.
+pub struct Held(Option<Token>);
 
-    fn nothing_held() {}
-
-    fn trial_call(
-        _session: &mut Session<'_, SharingStore<'s>>,
-        _held: (),
-        _call: &Call,
-    ) -> (Option<Answer>, ()) {
-        (None, ())
+impl<S: Store> Trials<TrialLayer<S>> for Held {
+    fn none_open() -> Held {
+        Held(None)
     }
 
-    fn finish(_session: &mut Session<'_, SharingStore<'s>>, _held: ()) {}
+    fn call(
+        &mut self,
+        session: &mut Session<'_, TrialLayer<S>>,
+        call: TrialCall,
+    ) -> Option<Result<Answer, Refused>> {
+        let answer = match call {
+            TrialCall::Open => open(session, &mut self.0),
+            TrialCall::Keep { trial } => keep(session, &mut self.0, trial),
+            TrialCall::PutBack { trial } => put_back(session, &mut self.0, trial),
+        };
+        Some(answer.map_err(Refused::from))
+    }
+
+    fn finish(self, session: &mut Session<'_, TrialLayer<S>>) {
+        let Held(token) = self;
+        spend(session, token);
+    }
 }
 
 /// Spends a token: its trial is kept if it is open, and nothing happens otherwise.
@@ -68,91 +79,47 @@ fn spend<S: Store>(session: &mut Session<'_, TrialLayer<S>>, token: Option<Token
 
 fn open<S: Store>(
     session: &mut Session<'_, TrialLayer<S>>,
-    held: Option<Token>,
-) -> (Option<Answer>, Option<Token>) {
-    match session.open() {
-        Ok(token) => {
-            spend(session, held);
-            (Some(Answer::Trial(token.number())), Some(token))
-        }
-        Err(fault) => (Some(Answer::TrialRefused(fault)), held),
-    }
+    held: &mut Option<Token>,
+) -> Result<Answer, TrialFault> {
+    let token = session.open()?;
+    let number = token.number();
+    spend(session, held.replace(token));
+    Ok(Answer::Trial(number))
 }
 
 /// The token of this number: the one that is held, or one made for it; 0 is no trial's number.
-fn token_of(held: Option<Token>, trial: u32) -> (Option<Token>, Option<Token>) {
-    match held {
-        Some(token) => {
-            if token.number() == trial {
-                (Some(token), None)
-            } else {
-                (Token::of(trial), Some(token))
-            }
-        }
-        None => (Token::of(trial), None),
-    }
+fn token_of(held: &mut Option<Token>, trial: u32) -> Result<Token, TrialFault> {
+    held.take_if(|token| token.number() == trial)
+        .or_else(|| Token::of(trial))
+        .ok_or(TrialFault::WrongToken)
 }
 
 fn keep<S: Store>(
     session: &mut Session<'_, TrialLayer<S>>,
-    held: Option<Token>,
+    held: &mut Option<Token>,
     trial: u32,
-) -> (Option<Answer>, Option<Token>) {
-    let (token, held) = token_of(held, trial);
-    let answer = match token {
-        Some(token) => match session.keep(token) {
-            Ok(()) => Answer::Kept,
-            Err(fault) => Answer::TrialRefused(fault),
-        },
-        None => Answer::TrialRefused(TrialFault::WrongToken),
-    };
-    (Some(answer), held)
+) -> Result<Answer, TrialFault> {
+    let token = token_of(held, trial)?;
+    session.keep(token)?;
+    Ok(Answer::Kept)
 }
 
 /// A token that is handed back is held again if it is that of the open trial, and spent otherwise, which has no effect.
 fn put_back<S: Store>(
     session: &mut Session<'_, TrialLayer<S>>,
-    held: Option<Token>,
+    held: &mut Option<Token>,
     trial: u32,
-) -> (Option<Answer>, Option<Token>) {
-    let (token, held) = token_of(held, trial);
-    let Some(token) = token else {
-        return (Some(Answer::TrialRefused(TrialFault::WrongToken)), held);
-    };
+) -> Result<Answer, TrialFault> {
+    let token = token_of(held, trial)?;
     match session.put_back(token) {
-        Ok(()) => (Some(Answer::Restored), held),
+        Ok(()) => Ok(Answer::Restored),
         Err((token, TrialFault::Overrun)) => {
-            spend(session, held);
-            (Some(Answer::TrialRefused(TrialFault::Overrun)), Some(token))
+            spend(session, held.replace(token));
+            Err(TrialFault::Overrun)
         }
         Err((token, fault)) => {
             spend(session, Some(token));
-            (Some(Answer::TrialRefused(fault)), held)
+            Err(fault)
         }
-    }
-}
-
-impl<S: Store> TrialCalls for TrialLayer<S> {
-    type Held = Option<Token>;
-
-    fn nothing_held() -> Option<Token> {
-        None
-    }
-
-    fn trial_call(
-        session: &mut Session<'_, TrialLayer<S>>,
-        held: Option<Token>,
-        call: &Call,
-    ) -> (Option<Answer>, Option<Token>) {
-        match call {
-            Call::Open => open(session, held),
-            Call::Keep { trial } => keep(session, held, *trial),
-            Call::PutBack { trial } => put_back(session, held, *trial),
-            _ => (None, held),
-        }
-    }
-
-    fn finish(session: &mut Session<'_, TrialLayer<S>>, held: Option<Token>) {
-        spend(session, held);
     }
 }

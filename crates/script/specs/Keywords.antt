@@ -2,7 +2,8 @@
 use Rattle.std.specs.Prelude.{ℕ, Bool, true, false, List, [], ◌∷◌, codes, Option}
 use Rattle.words.specs.Names.{named}
 use Rattle.script.specs.declared.keywords.Verb.{Verb}
-use Rattle.script.specs.declared.keywords.Verb.TheVariants.{Check, Compile, List as ListBack, Code, Start, Run, Open, Keep, PutBack, Objects}
+use Rattle.script.specs.declared.keywords.Verb.TheVariants.{Check, Compile, List as ListBack, Code, Start, Run, Trial, Objects}
+use Rattle.script.specs.declared.keywords.TrialVerb.TheVariants.{Open, Keep, PutBack}
 use Rattle.script.specs.declared.keywords.Keyword.{Keyword}
 use Rattle.script.specs.declared.keywords.Keyword.TheVariants.{Store, Lengths, Call}
 
@@ -11,7 +12,7 @@ keywords =
     (codes "store", Store) ∷ (codes "lengths", Lengths)
     ∷ (codes "check", Call Check) ∷ (codes "compile", Call Compile) ∷ (codes "list", Call ListBack) ∷ (codes "code", Call Code)
     ∷ (codes "start", Call Start) ∷ (codes "run", Call Run)
-    ∷ (codes "open", Call Open) ∷ (codes "keep", Call Keep) ∷ (codes "put-back", Call PutBack)
+    ∷ (codes "open", Call (Trial Open)) ∷ (codes "keep", Call (Trial Keep)) ∷ (codes "put-back", Call (Trial PutBack))
     ∷ (codes "objects", Call Objects) ∷ []
 
 abbrev pub keyword_in : List ℕ → Option Keyword
@@ -25,7 +26,5 @@ wants_trials ListBack = false
 wants_trials Code = false
 wants_trials Start = false
 wants_trials Run = false
-wants_trials Open = true
-wants_trials Keep = true
-wants_trials PutBack = true
+wants_trials (Trial v) = true
 wants_trials Objects = false

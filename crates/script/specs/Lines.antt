@@ -1,6 +1,6 @@
 -- What a line of a script says.
-use Rattle.std.specs.Prelude.{◌≡◌, ℕ, Bool, true, false, cond, not, ◌&&◌, List, [], ◌∷◌, drop, replicate, Some, None, Ok, Err, vec_items, Option, Result, ◌==◌, slice_index_or, slice_set}
-use Rattle.std.specs.Option.{option_map, ok_or}
+use Rattle.std.specs.Prelude.{◌≡◌, ℕ, Bool, true, false, cond, not, ◌&&◌, List, [], ◌∷◌, drop, Some, None, Ok, Err, vec_items, Option, Result, ◌==◌}
+use Rattle.std.specs.Option.{option_map, ok_or, is_some}
 use Rattle.calculus.specs.declared.rows.Row.{Row}
 use Rattle.calculus.specs.declared.values.Value.{Value}
 use Rattle.calculus.specs.Places.{if_some}
@@ -8,13 +8,17 @@ use Rattle.words.specs.Numbers.{bits_in}
 use Rattle.words.specs.Words.{words_in, line_text}
 use Rattle.signs.specs.Reading.{row_in, value_in}
 use Rattle.script.specs.declared.calls.Call.{Call}
-use Rattle.script.specs.declared.calls.Call.TheVariants.{Check, Compile, List as ListBack, Code, Start, Run, Open, Keep, PutBack, Objects}
+use Rattle.script.specs.declared.calls.Call.TheVariants.{Check, Compile, List as ListBack, Code, Start, Run, Trial, Objects}
+use Rattle.script.specs.declared.calls.TrialCall.{TrialCall}
+use Rattle.script.specs.declared.calls.TrialCall.TheVariants.{Open, Keep, PutBack}
 use Rattle.script.specs.declared.calls.Expected.{Expected}
 use Rattle.script.specs.declared.calls.Expected.TheVariants as lacks
 use Rattle.script.specs.declared.calls.Unread.{Unread}
 use Rattle.script.specs.declared.calls.Unread.TheVariants as unread
 use Rattle.script.specs.declared.keywords.Verb.{Verb}
 use Rattle.script.specs.declared.keywords.Verb.TheVariants as verb
+use Rattle.script.specs.declared.keywords.TrialVerb.{TrialVerb}
+use Rattle.script.specs.declared.keywords.TrialVerb.TheVariants as trying
 use Rattle.script.specs.declared.keywords.Keyword.{Keyword}
 use Rattle.script.specs.declared.keywords.Keyword.TheVariants as key
 use Rattle.script.specs.declared.settings.StoreKind.{StoreKind}
@@ -25,7 +29,7 @@ use Rattle.script.specs.declared.settings.Area.{Area}
 use Rattle.script.specs.declared.settings.Lengths.{Lengths}
 use Rattle.script.specs.declared.settings.Settings.{Settings}
 use Rattle.script.specs.Keywords.{keyword_in, wants_trials}
-use Rattle.script.specs.Settings.{has_trials, store_word_in, area_in, place, with_length}
+use Rattle.script.specs.Settings.{has_trials, store_word_in, area_in, none_set, set_of, with_length, store_of}
 
 -- a call, with its rows and its values as lists
 pub data Asked : Type 0 where
@@ -35,9 +39,7 @@ pub data Asked : Type 0 where
   code : (program : ℕ) → Asked
   start : (program allowance : ℕ) (values : List Value) → Asked
   run : (reductions : ℕ) → Asked
-  open_trial : Asked
-  keep : (trial : ℕ) → Asked
-  put_back : (trial : ℕ) → Asked
+  trial : TrialCall → Asked
   objects : Asked
 
 abbrev pub asked : Call → Asked
@@ -47,9 +49,7 @@ asked (ListBack p) = list_back p
 asked (Code p) = code p
 asked (Start p a values) = start p a (vec_items values)
 asked (Run n) = run n
-asked Open = open_trial
-asked (Keep t) = keep t
-asked (PutBack t) = put_back t
+asked (Trial t) = trial t
 asked Objects = objects
 
 module _ {X Y E : Type 0} where
@@ -58,10 +58,26 @@ module _ {X Y E : Type 0} where
   then (Ok x) f = f x
   then (Err e) f = Err e
 
+module _ {X : Type 0} (read : List ℕ → Option X) (what : Expected) where
+  -- the first word, read
+  abbrev pub first_in : List (List ℕ) → Result X Expected
+  first_in [] = Err what
+  first_in (w ∷ ws) = ok_or (read w) what
+
+  -- all words, read alike
+  abbrev pub all_in : List (List ℕ) → Result (List X) Expected
+  all_in [] = Ok []
+  all_in (w ∷ ws) = then (ok_or (read w) what) (λ x. then (all_in ws) (λ xs. Ok (x ∷ xs)))
+
 -- the first word as a number of 32 bits
 abbrev pub number_in : Expected → List (List ℕ) → Result ℕ Expected
-number_in what [] = Err what
-number_in what (w ∷ ws) = ok_or (bits_in 32 w) what
+number_in what ws = first_in (bits_in 32) what ws
+
+abbrev pub rows_in : List (List ℕ) → Result (List Row) Expected
+rows_in ws = all_in row_in lacks.Row ws
+
+abbrev pub values_in : List (List ℕ) → Result (List Value) Expected
+values_in ws = all_in value_in lacks.Value ws
 
 module _ {X : Type 0} where
   -- this, and nothing more
@@ -72,18 +88,6 @@ module _ {X : Type 0} where
 -- a number, and nothing more
 abbrev pub one_number_in : Expected → List (List ℕ) → Result ℕ Expected
 one_number_in what ws = then (number_in what ws) (λ n. alone n (drop 1 ws))
-
-module _ {X : Type 0} (read : List ℕ → Option X) (what : Expected) where
-  -- all words, read alike
-  abbrev pub all_in : List (List ℕ) → Result (List X) Expected
-  all_in [] = Ok []
-  all_in (w ∷ ws) = then (ok_or (read w) what) (λ x. then (all_in ws) (λ xs. Ok (x ∷ xs)))
-
-abbrev pub rows_in : List (List ℕ) → Result (List Row) Expected
-rows_in ws = all_in row_in lacks.Row ws
-
-abbrev pub values_in : List (List ℕ) → Result (List Value) Expected
-values_in ws = all_in value_in lacks.Value ws
 
 -- what was read is what the words say, unless memory failed
 module _ {X Y : Type 0} where
@@ -100,8 +104,7 @@ module _ {Y : Type 0} where
 
 -- the first word as a part of a store's name
 abbrev pub store_word_first : List (List ℕ) → Result StoreWord Expected
-store_word_first [] = Err lacks.StoreKind
-store_word_first (w ∷ ws) = ok_or (store_word_in w) lacks.StoreKind
+store_word_first ws = first_in store_word_in lacks.StoreKind ws
 
 -- a store's name and nothing more: behind two layers, behind one, and whole
 abbrev pub under_two : List (List ℕ) → Result StoreKind Expected
@@ -114,35 +117,35 @@ abbrev pub store_in : List (List ℕ) → Result StoreKind Expected
 store_in ws = then (store_word_first ws) (λ w. by_store_word w (alone kind.Flat (drop 1 ws)) (alone kind.Sharing (drop 1 ws)) (under_one (drop 1 ws)))
 
 -- the area of a name that was not there before
-abbrev pub new_area_in : List Bool → List ℕ → Result Area Expected
-new_area_in named w = then (ok_or (area_in w) lacks.AreaName) (λ a. cond (slice_index_or named (place a) false) (Err lacks.AreaOnce) (Ok a))
+abbrev pub new_area_in : Lengths → List ℕ → Result Area Expected
+new_area_in l w = then (ok_or (area_in w) lacks.AreaName) (λ a. cond (is_some (set_of l a)) (Err lacks.AreaOnce) (Ok a))
 
--- names with their lengths, after the areas that were named
-abbrev pub lengths_after : List Bool → Lengths → List (List ℕ) → Result Lengths Expected
-lengths_after named l [] = Ok l
-lengths_after named l (w ∷ []) = then (new_area_in named w) (λ a. Err lacks.AreaLength)
-lengths_after named l (w ∷ v ∷ ws) = then (new_area_in named w) (λ a. then (ok_or (bits_in 32 v) lacks.AreaLength) (λ n. lengths_after (slice_set named (place a) true) (with_length l a n) ws))
+-- names with their lengths, after those that were set
+abbrev pub lengths_after : Lengths → List (List ℕ) → Result Lengths Expected
+lengths_after l [] = Ok l
+lengths_after l (w ∷ []) = then (new_area_in l w) (λ a. Err lacks.AreaLength)
+lengths_after l (w ∷ v ∷ ws) = then (new_area_in l w) (λ a. then (ok_or (bits_in 32 v) lacks.AreaLength) (λ n. lengths_after (with_length l a n) ws))
 
 -- at least one name
-abbrev pub lengths_in : Lengths → List (List ℕ) → Result Lengths Expected
-lengths_in l [] = Err lacks.AreaName
-lengths_in l (w ∷ ws) = lengths_after (replicate 7 false) l (w ∷ ws)
+abbrev pub lengths_in : List (List ℕ) → Result Lengths Expected
+lengths_in [] = Err lacks.AreaName
+lengths_in (w ∷ ws) = lengths_after none_set (w ∷ ws)
 
 -- a setting can be made before the first call, and once
 abbrev pub may_set : Settings → Bool → Result (Unit {0}) Expected
 may_set s is_set = cond s.calls_begun (Err lacks.SettingFirst) (cond is_set (Err lacks.SettingOnce) (Ok tt))
 
 abbrev pub store_line : Settings → List (List ℕ) → Result Settings Expected
-store_line s ws =
-    then (may_set s s.store_set) (λ _.
-    then (store_in ws) (λ k.
-    Ok (record { store = k; lengths = s.lengths; store_set = true; lengths_set = s.lengths_set; calls_begun = s.calls_begun })))
+store_line s ws = then (may_set s (is_some s.store)) (λ _. then (store_in ws) (λ k. Ok (record s { store = Some k })))
 
 abbrev pub lengths_line : Settings → List (List ℕ) → Result Settings Expected
-lengths_line s ws =
-    then (may_set s s.lengths_set) (λ _.
-    then (lengths_in s.lengths ws) (λ l.
-    Ok (record { store = s.store; lengths = l; store_set = s.store_set; lengths_set = true; calls_begun = s.calls_begun })))
+lengths_line s ws = then (may_set s (is_some s.lengths)) (λ _. then (lengths_in ws) (λ l. Ok (record s { lengths = Some l })))
+
+-- the trial call of a verb, and of the words behind it
+abbrev pub trial_call_in : TrialVerb → List (List ℕ) → Result TrialCall Expected
+trial_call_in trying.Open ws = alone Open ws
+trial_call_in trying.Keep ws = then (one_number_in lacks.Trial ws) (λ t. Ok (Keep t))
+trial_call_in trying.PutBack ws = then (one_number_in lacks.Trial ws) (λ t. Ok (PutBack t))
 
 -- the call of a verb, and of the words behind it
 abbrev pub call_in : Verb → List (List ℕ) → Result Asked Expected
@@ -152,9 +155,7 @@ call_in verb.List ws = then (one_number_in lacks.Program ws) (λ p. Ok (list_bac
 call_in verb.Code ws = then (one_number_in lacks.Program ws) (λ p. Ok (code p))
 call_in verb.Start ws = then (number_in lacks.Program ws) (λ p. then (number_in lacks.Allowance (drop 1 ws)) (λ a. then (values_in (drop 1 (drop 1 ws))) (λ values. Ok (start p a values))))
 call_in verb.Run ws = then (one_number_in lacks.Reductions ws) (λ n. Ok (run n))
-call_in verb.Open ws = alone open_trial ws
-call_in verb.Keep ws = then (one_number_in lacks.Trial ws) (λ t. Ok (keep t))
-call_in verb.PutBack ws = then (one_number_in lacks.Trial ws) (λ t. Ok (put_back t))
+call_in (verb.Trial v) ws = then (trial_call_in v ws) (λ t. Ok (trial t))
 call_in verb.Objects ws = alone objects ws
 
 -- trials are a trial layer's
@@ -162,13 +163,13 @@ abbrev pub call_over : StoreKind → Verb → List (List ℕ) → Result Asked E
 call_over k v ws = then (call_in v ws) (λ a. cond (wants_trials v && not (has_trials k)) (Err lacks.TrialLayer) (Ok a))
 
 abbrev pub begun : Settings → Settings
-begun s = record { store = s.store; lengths = s.lengths; store_set = s.store_set; lengths_set = s.lengths_set; calls_begun = true }
+begun s = record s { calls_begun = true }
 
 -- a setting says nothing more, a call is handed on
 abbrev pub keyword_line : Settings → Keyword → List (List ℕ) → Result (Settings × Option Asked) Expected
 keyword_line s key.Store ws = then (store_line s ws) (λ t. Ok (t, None))
 keyword_line s key.Lengths ws = then (lengths_line s ws) (λ t. Ok (t, None))
-keyword_line s (key.Call v) ws = then (call_over s.store v ws) (λ a. Ok (begun s, Some a))
+keyword_line s (key.Call v) ws = then (call_over (store_of s) v ws) (λ a. Ok (begun s, Some a))
 
 abbrev pub is_comment : List ℕ → Bool
 is_comment [] = false

@@ -1,5 +1,6 @@
 -- What may be set before the first call.
-use Rattle.std.specs.Prelude.{ℕ, Bool, true, false, List, [], ◌∷◌, codes, Option}
+use Rattle.std.specs.Prelude.{ℕ, Bool, true, false, List, [], ◌∷◌, replicate, codes, Some, None, Option, unwrap_or, slice_index_or, slice_set}
+use Rattle.calculus.specs.Places.{if_some}
 use Rattle.words.specs.Names.{named}
 use Rattle.script.specs.declared.settings.StoreKind.{StoreKind}
 use Rattle.script.specs.declared.settings.StoreKind.TheVariants.{Flat, Sharing, TrialFlat, TrialSharing, TrialTrialSharing}
@@ -41,23 +42,25 @@ place Frames = 4
 place Objects = 5
 place Slots = 6
 
--- the same with another length for one area
-abbrev pub with_length : Lengths → Area → ℕ → Lengths
-with_length l Contents n = record { contents = n; operations = l.operations; methods = l.methods; cells = l.cells; frames = l.frames; objects = l.objects; slots = l.slots }
-with_length l Operations n = record { contents = l.contents; operations = n; methods = l.methods; cells = l.cells; frames = l.frames; objects = l.objects; slots = l.slots }
-with_length l Methods n = record { contents = l.contents; operations = l.operations; methods = n; cells = l.cells; frames = l.frames; objects = l.objects; slots = l.slots }
-with_length l Cells n = record { contents = l.contents; operations = l.operations; methods = l.methods; cells = n; frames = l.frames; objects = l.objects; slots = l.slots }
-with_length l Frames n = record { contents = l.contents; operations = l.operations; methods = l.methods; cells = l.cells; frames = n; objects = l.objects; slots = l.slots }
-with_length l Objects n = record { contents = l.contents; operations = l.operations; methods = l.methods; cells = l.cells; frames = l.frames; objects = n; slots = l.slots }
-with_length l Slots n = record { contents = l.contents; operations = l.operations; methods = l.methods; cells = l.cells; frames = l.frames; objects = l.objects; slots = n }
+-- the length that is set for an area
+abbrev pub set_of : Lengths → Area → Option ℕ
+set_of l a = slice_index_or l.set (place a) None
 
--- before the first line: a trial layer over the flat store, and 4096 entries in each area
+-- the same with this length for an area
+abbrev pub with_length : Lengths → Area → ℕ → Lengths
+with_length l a n = record { set = slice_set l.set (place a) (Some n) }
+
+abbrev pub none_set : Lengths
+none_set = record { set = replicate 7 None }
+
+-- before the first line nothing is set
 abbrev pub at_start : Settings
-at_start =
-    record {
-      store = TrialFlat;
-      lengths = record { contents = 4096; operations = 4096; methods = 4096; cells = 4096; frames = 4096; objects = 4096; slots = 4096 };
-      store_set = false;
-      lengths_set = false;
-      calls_begun = false;
-    }
+at_start = record { store = None; lengths = None; calls_begun = false }
+
+-- a trial layer over the flat store where nothing else is set
+abbrev pub store_of : Settings → StoreKind
+store_of s = unwrap_or s.store TrialFlat
+
+-- 4096 entries in each area where nothing else is set
+abbrev pub length_of : Settings → Area → ℕ
+length_of s a = if_some s.lengths (λ l. unwrap_or (set_of l a) 4096) 4096

@@ -33,14 +33,16 @@ pub enum Call {
     Run {
         reductions: u32,
     },
-    Open,
-    Keep {
-        trial: u32,
-    },
-    PutBack {
-        trial: u32,
-    },
+    Trial(TrialCall),
     Objects,
+}
+
+/// One call to a trial layer.
+#[derive(Clone, Copy)]
+pub enum TrialCall {
+    Open,
+    Keep { trial: u32 },
+    PutBack { trial: u32 },
 }
 
 /// What was expected where a line is no setting and no call.
@@ -64,12 +66,11 @@ pub enum Expected {
     LineEnd,
 }
 
-impl Expected {
-    /// The words for it.
-    fn text(self) -> &'static str
-        ensures { result.now ≡ expected_text self }
-    {
-        match self {
+impl fmt::Display for Expected {
+    ghost output = { λ e. Some (expected_text e) };
+
+    fn fmt<W: fmt::Write>(&self, f: &mut fmt::Formatter<W>) -> fmt::Result {
+        let text = match self {
             Expected::Keyword =>
                 "a setting (store, lengths) or a call (check, compile, list, code, start, run, open, keep, put-back, objects)",
             Expected::StoreKind =>
@@ -91,16 +92,8 @@ impl Expected {
             Expected::TrialLayer =>
                 "a store that is a trial layer (set it by 'store trial flat', say)",
             Expected::LineEnd => "nothing more on this line",
-        }
-    }
-}
-
-impl fmt::Display for Expected {
-    ghost output = { λ e. Some (expected_text e) };
-
-    fn fmt<W: fmt::Write>(&self, f: &mut fmt::Formatter<W>) -> fmt::Result {
-        let text = self.text();
-        write!(f, "{text}")
+        };
+        f.write_str(text)
     }
 }
 

@@ -1,6 +1,16 @@
 //! The words that a line begins with.
-ghost use Rattle.std.specs.Prelude.{◌≡◌};
-ghost use Rattle.script.specs.Keywords.{keyword_in, wants_trials};
+ghost use Rattle.std.specs.Prelude.{◌≡◌, refl};
+ghost use Rattle.script.specs.Keywords.{keywords, keyword_in, wants_trials};
+
+use crate::named::{Named, OfWord, by_name};
+
+/// What a call does in a trial layer.
+#[derive(Clone, Copy)]
+pub(crate) enum TrialVerb {
+    Open,
+    Keep,
+    PutBack,
+}
 
 /// What a call does.
 #[derive(Clone, Copy)]
@@ -11,9 +21,7 @@ pub(crate) enum Verb {
     Code,
     Start,
     Run,
-    Open,
-    Keep,
-    PutBack,
+    Trial(TrialVerb),
     Objects,
 }
 
@@ -30,40 +38,38 @@ impl Verb {
     pub(crate) fn wants_trials(self) -> bool
         ensures { result ≡ wants_trials self }
     {
-        match self {
-            Verb::Open | Verb::Keep | Verb::PutBack => true,
-            _ => false,
+        matches!(self, Verb::Trial(_))
+    }
+}
+
+impl Named for Keyword {
+    ghost names = { keywords };
+
+    fn of_name(name: &str) -> Option<Keyword> {
+        match name {
+            "store" => Some(Keyword::Store),
+            "lengths" => Some(Keyword::Lengths),
+            "check" => Some(Keyword::Call(Verb::Check)),
+            "compile" => Some(Keyword::Call(Verb::Compile)),
+            "list" => Some(Keyword::Call(Verb::List)),
+            "code" => Some(Keyword::Call(Verb::Code)),
+            "start" => Some(Keyword::Call(Verb::Start)),
+            "run" => Some(Keyword::Call(Verb::Run)),
+            "open" => Some(Keyword::Call(Verb::Trial(TrialVerb::Open))),
+            "keep" => Some(Keyword::Call(Verb::Trial(TrialVerb::Keep))),
+            "put-back" => Some(Keyword::Call(Verb::Trial(TrialVerb::PutBack))),
+            "objects" => Some(Keyword::Call(Verb::Objects)),
+            _ => None,
         }
     }
+
+    ghost names_are_low = { refl };
 }
 
-/// What a text begins a line of.
-fn keyword_named(text: &str) -> Option<Keyword>
-    ensures { result ≡ keyword_in text.now }
-{
-    match text {
-        "store" => Some(Keyword::Store),
-        "lengths" => Some(Keyword::Lengths),
-        "check" => Some(Keyword::Call(Verb::Check)),
-        "compile" => Some(Keyword::Call(Verb::Compile)),
-        "list" => Some(Keyword::Call(Verb::List)),
-        "code" => Some(Keyword::Call(Verb::Code)),
-        "start" => Some(Keyword::Call(Verb::Start)),
-        "run" => Some(Keyword::Call(Verb::Run)),
-        "open" => Some(Keyword::Call(Verb::Open)),
-        "keep" => Some(Keyword::Call(Verb::Keep)),
-        "put-back" => Some(Keyword::Call(Verb::PutBack)),
-        "objects" => Some(Keyword::Call(Verb::Objects)),
-        _ => None,
-    }
-}
+impl OfWord for Keyword {
+    ghost in_word = { keyword_in };
 
-/// What a word begins a line of.
-pub(crate) fn keyword_of(word: &[u8]) -> Option<Keyword>
-    ensures { result ≡ keyword_in word.now }
-{
-    match std::str::from_utf8(word) {
-        Ok(text) => keyword_named(text),
-        Err(_) => None,
+    fn of_word(word: &[u8]) -> Option<Keyword> {
+        by_name(word)
     }
 }

@@ -4,4 +4,5 @@
 pub mod calls;
 mod keywords;
 pub mod lines;
+mod named;
 pub mod settings;

@@ -1,6 +1,8 @@
 //! What may be set before the first call.
-ghost use Rattle.std.specs.Prelude.{◌≡◌, ◌<◌};
-ghost use Rattle.script.specs.Settings.{has_trials, store_word_in, area_in, place, with_length, at_start};
+ghost use Rattle.std.specs.Prelude.{◌≡◌, ◌<◌, refl};
+ghost use Rattle.script.specs.Settings.{has_trials, store_words, store_word_in, areas, area_in, place, none_set, set_of, with_length, at_start, store_of, length_of};
+
+use crate::named::{Named, OfWord, by_name};
 
 /// The kind of store that a session runs over.
 #[derive(Clone, Copy)]
@@ -17,10 +19,7 @@ impl StoreKind {
     pub fn has_trials(self) -> bool
         ensures { result ≡ has_trials self }
     {
-        match self {
-            StoreKind::Flat | StoreKind::Sharing => false,
-            _ => true,
-        }
+        !matches!(self, StoreKind::Flat | StoreKind::Sharing)
     }
 }
 
@@ -32,30 +31,32 @@ pub(crate) enum StoreWord {
     Trial,
 }
 
-fn store_word_named(text: &str) -> Option<StoreWord>
-    ensures { result ≡ store_word_in text.now }
-{
-    match text {
-        "flat" => Some(StoreWord::Flat),
-        "sharing" => Some(StoreWord::Sharing),
-        "trial" => Some(StoreWord::Trial),
-        _ => None,
+impl Named for StoreWord {
+    ghost names = { store_words };
+
+    fn of_name(name: &str) -> Option<StoreWord> {
+        match name {
+            "flat" => Some(StoreWord::Flat),
+            "sharing" => Some(StoreWord::Sharing),
+            "trial" => Some(StoreWord::Trial),
+            _ => None,
+        }
     }
+
+    ghost names_are_low = { refl };
 }
 
-/// A word as part of a store's name.
-pub(crate) fn store_word_of(word: &[u8]) -> Option<StoreWord>
-    ensures { result ≡ store_word_in word.now }
-{
-    match std::str::from_utf8(word) {
-        Ok(text) => store_word_named(text),
-        Err(_) => None,
+impl OfWord for StoreWord {
+    ghost in_word = { store_word_in };
+
+    fn of_word(word: &[u8]) -> Option<StoreWord> {
+        by_name(word)
     }
 }
 
 /// The areas of a session: the three code tables, cells, frames, and the store's object area and method area.
 #[derive(Clone, Copy)]
-pub(crate) enum Area {
+pub enum Area {
     Contents,
     Operations,
     Methods,
@@ -67,87 +68,80 @@ pub(crate) enum Area {
 
 impl Area {
     /// Its place among the areas.
-    pub(crate) fn place(self) -> usize
-        ensures { result ≡ place self }
+    fn place(self) -> usize
+        ensures place { result ≡ place self }
+        ensures within { result < 7 }
     {
-        match self {
-            Area::Contents => 0,
-            Area::Operations => 1,
-            Area::Methods => 2,
-            Area::Cells => 3,
-            Area::Frames => 4,
-            Area::Objects => 5,
-            Area::Slots => 6,
+        self as usize
+    }
+}
+
+impl Named for Area {
+    ghost names = { areas };
+
+    fn of_name(name: &str) -> Option<Area> {
+        match name {
+            "contents" => Some(Area::Contents),
+            "operations" => Some(Area::Operations),
+            "methods" => Some(Area::Methods),
+            "cells" => Some(Area::Cells),
+            "frames" => Some(Area::Frames),
+            "objects" => Some(Area::Objects),
+            "slots" => Some(Area::Slots),
+            _ => None,
         }
     }
+
+    ghost names_are_low = { refl };
 }
 
-fn area_named(text: &str) -> Option<Area>
-    ensures { result ≡ area_in text.now }
-{
-    match text {
-        "contents" => Some(Area::Contents),
-        "operations" => Some(Area::Operations),
-        "methods" => Some(Area::Methods),
-        "cells" => Some(Area::Cells),
-        "frames" => Some(Area::Frames),
-        "objects" => Some(Area::Objects),
-        "slots" => Some(Area::Slots),
-        _ => None,
+impl OfWord for Area {
+    ghost in_word = { area_in };
+
+    fn of_word(word: &[u8]) -> Option<Area> {
+        by_name(word)
     }
 }
 
-/// The area of a name.
-pub(crate) fn area_of(word: &[u8]) -> Option<Area>
-    ensures { result ≡ area_in word.now }
-{
-    match std::str::from_utf8(word) {
-        Ok(text) => area_named(text),
-        Err(_) => None,
-    }
-}
-
-/// The length of each area.
+/// The lengths that a line sets: of the areas that it names, each by its place.
 #[derive(Clone, Copy)]
 pub struct Lengths {
-    pub contents: u32,
-    pub operations: u32,
-    pub methods: u32,
-    pub cells: u32,
-    pub frames: u32,
-    pub objects: u32,
-    pub slots: u32,
+    set: [Option<u32>; 7],
+}
+
+impl Lengths {
+    /// No area's length is set.
+    pub(crate) fn none() -> Lengths
+        ensures { result ≡ none_set }
+    {
+        Lengths { set: [None; 7] }
+    }
+
+    /// The length that is set for an area, if it is.
+    pub(crate) fn of(self, area: Area) -> Option<u32>
+        ensures { result ≡ set_of self area }
+    {
+        self.set[area.place()]
+    }
+
+    /// The same with this length for an area.
+    pub(crate) fn with(self, area: Area, length: u32) -> Lengths
+        ensures { result ≡ with_length self area length }
+    {
+        let mut set = self.set;
+        set[area.place()] = Some(length);
+        Lengths { set }
+    }
 }
 
 /// Each area's length where nothing else is set.
 pub const LENGTH: u32 = 4096;
 
-impl Lengths {
-    /// The same with another length for one area.
-    pub(crate) fn with(self, area: Area, length: u32) -> Lengths
-        ensures { result ≡ with_length self area length }
-    {
-        let mut lengths = self;
-        match area {
-            Area::Contents => lengths.contents = length,
-            Area::Operations => lengths.operations = length,
-            Area::Methods => lengths.methods = length,
-            Area::Cells => lengths.cells = length,
-            Area::Frames => lengths.frames = length,
-            Area::Objects => lengths.objects = length,
-            Area::Slots => lengths.slots = length,
-        }
-        lengths
-    }
-}
-
 /// What a script has set, and whether it can still set it.
-#[derive(Clone, Copy)]
+#[derive(Clone, Copy, Default)]
 pub struct Settings {
-    pub store: StoreKind,
-    pub lengths: Lengths,
-    pub store_set: bool,
-    pub lengths_set: bool,
+    pub store: Option<StoreKind>,
+    pub lengths: Option<Lengths>,
     pub calls_begun: bool,
 }
 
@@ -156,20 +150,22 @@ impl Settings {
     pub fn new() -> Settings
         ensures { result ≡ at_start }
     {
-        Settings {
-            store: StoreKind::TrialFlat,
-            lengths: Lengths {
-                contents: LENGTH,
-                operations: LENGTH,
-                methods: LENGTH,
-                cells: LENGTH,
-                frames: LENGTH,
-                objects: LENGTH,
-                slots: LENGTH,
-            },
-            store_set: false,
-            lengths_set: false,
-            calls_begun: false,
-        }
+        Settings::default()
+    }
+
+    /// The kind of store: a trial layer over the flat store where nothing else is set.
+    pub fn store(self) -> StoreKind
+        ensures { result ≡ store_of self }
+    {
+        self.store.unwrap_or(StoreKind::TrialFlat)
+    }
+
+    /// The length of an area.
+    pub fn length(self, area: Area) -> u32
+        ensures { result ≡ length_of self area }
+    {
+        self.lengths
+            .and_then(|lengths| lengths.of(area))
+            .unwrap_or(LENGTH)
     }
 }

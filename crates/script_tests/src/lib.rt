@@ -5,9 +5,9 @@
 mod tests {
     use calculus::rows::Row;
     use calculus::values::Value;
-    use script::calls::{Call, Expected, Unread};
+    use script::calls::{Call, Expected, TrialCall, Unread};
     use script::lines::read_line;
-    use script::settings::{Settings, StoreKind};
+    use script::settings::{Area, Settings, StoreKind};
     use signs::write::{RowText, ValueText};
     use std::alloc::Global;
     use std::test::Fail;
@@ -132,16 +132,16 @@ mod tests {
         let heap = rt.alloc();
         let mut settings = Settings::new();
         let _ = read_line(heap, &mut settings, b"lengths cells 1 frames x");
-        assert_eq!(rt; settings.lengths.cells, 4096);
-        assert!(rt; !settings.lengths_set);
+        assert_eq!(rt; settings.length(Area::Cells), 4096);
+        assert!(rt; settings.lengths.is_none());
         let _ = read_line(heap, &mut settings, b"check 0 X");
         assert!(rt; !settings.calls_begun);
         let set = after(heap, settings, b"\tlengths  slots 7 contents 0\r\n")?;
-        assert_eq!(rt; set.lengths.slots, 7);
-        assert_eq!(rt; set.lengths.contents, 0);
-        assert_eq!(rt; set.lengths.methods, 4096);
+        assert_eq!(rt; set.length(Area::Slots), 7);
+        assert_eq!(rt; set.length(Area::Contents), 0);
+        assert_eq!(rt; set.length(Area::Methods), 4096);
         assert!(rt; !set.calls_begun);
-        assert!(rt; set.store.has_trials());
+        assert!(rt; set.store().has_trials());
         Ok(())
     }
 
@@ -199,9 +199,19 @@ mod tests {
                 }
             )
         );
-        assert!(rt; matches!(call(heap, b"open")?, Call::Open));
-        assert!(rt; matches!(call(heap, b"keep 1")?, Call::Keep { trial: 1 }));
-        assert!(rt; matches!(call(heap, b"put-back 0")?, Call::PutBack { trial: 0 }));
+        assert!(rt; matches!(call(heap, b"open")?, Call::Trial(TrialCall::Open)));
+        assert!(rt;
+            matches!(
+                call(heap, b"keep 1")?,
+                Call::Trial(TrialCall::Keep { trial: 1 })
+            )
+        );
+        assert!(rt;
+            matches!(
+                call(heap, b"put-back 0")?,
+                Call::Trial(TrialCall::PutBack { trial: 0 })
+            )
+        );
         assert!(rt; matches!(call(heap, b"objects")?, Call::Objects));
         Ok(())
     }

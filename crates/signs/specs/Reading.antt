@@ -1,5 +1,5 @@
 -- Words as rows and values.
-use Rattle.std.specs.Prelude.{ℕ, cond, List, [], ◌∷◌, pos, Some, None, Option, ◌==◌}
+use Rattle.std.specs.Prelude.{ℕ, Bool, cond, List, [], ◌∷◌, pos, Some, None, Option, ◌==◌}
 use Rattle.std.specs.Option.{option_map}
 use Rattle.calculus.specs.declared.rows.Row.{Row}
 use Rattle.calculus.specs.declared.values.Value.{Value}
@@ -19,10 +19,14 @@ abbrev pub bare_in : ℕ → List ℕ → Option Row
 bare_in k [] = Some (row k 0 (pos 0))
 bare_in k (b ∷ bs) = None
 
+-- a byte that parts fields
+abbrev pub is_stroke : ℕ → Bool
+is_stroke b = b == 47
+
 -- what stands before the first stroke, and behind it
 abbrev pub cut : List ℕ → Option (List ℕ × List ℕ)
 cut [] = None
-cut (b ∷ bs) = cond (b == 47) (Some ([], bs)) (option_map (λ p. (b ∷ p.0, p.1)) (cut bs))
+cut (b ∷ bs) = cond (is_stroke b) (Some ([], bs)) (option_map (λ p. (b ∷ p.0, p.1)) (cut bs))
 
 abbrev pub fields_in : List ℕ → List ℕ → List ℕ → Option Row
 fields_in k l n = if_some (bits_in 8 k) (λ kind. if_some (bits_in 16 l) (λ label. option_map (λ number. row kind label number) (integer_in n)) None) None

@@ -1,74 +1,58 @@
 //! Words as rows and values.
-ghost use Rattle.std.specs.Prelude.{◌≡◌, ◌+◌, ◌<◌, length, take, drop, Some, None, MatchOption};
-ghost use Rattle.signs.specs.Reading.{numbered_in, labelled_in, bare_in, cut, fields_in, spelled_in, row_in, value_in};
+ghost use Rattle.std.specs.Prelude.{◌≡◌, Some, None, MatchOption, position};
+ghost use Rattle.calculus.specs.Kinds.{kind_number};
+ghost use Rattle.signs.specs.Reading.{numbered_in, labelled_in, bare_in, is_stroke, cut, fields_in, spelled_in, row_in, value_in};
 
-use calculus::rows::{CLONE, FIGURE, LET, METHOD, OBJECT, Row, SELECT, UPDATE, VARIABLE};
+use calculus::rows::{Row, RowKind};
 use calculus::values::Value;
 use words::numbers::{integer, natural_8, natural_16, natural_32};
 
 /// A row of this kind whose field is its number.
-fn numbered(kind: u8, field: &[u8]) -> Option<Row>
-    ensures { result ≡ numbered_in kind field.now }
+fn numbered(kind: RowKind, field: &[u8]) -> Option<Row>
+    ensures { result ≡ numbered_in (kind_number kind) field.now }
 {
-    let number = integer(field)?;
-    Some(Row {
-        kind,
-        label: 0,
-        number,
-    })
+    Some(Row::new(kind, 0, integer(field)?))
 }
 
 /// A row of this kind whose field is its label.
-fn labelled(kind: u8, field: &[u8]) -> Option<Row>
-    ensures { result ≡ labelled_in kind field.now }
+fn labelled(kind: RowKind, field: &[u8]) -> Option<Row>
+    ensures { result ≡ labelled_in (kind_number kind) field.now }
 {
-    let label = natural_16(field)?;
-    Some(Row {
-        kind,
-        label,
-        number: 0,
-    })
+    Some(Row::new(kind, natural_16(field)?, 0))
 }
 
 /// A row of this kind, which has no field.
-fn bare(kind: u8, field: &[u8]) -> Option<Row>
-    ensures { result ≡ bare_in kind field.now }
+fn bare(kind: RowKind, field: &[u8]) -> Option<Row>
+    ensures { result ≡ bare_in (kind_number kind) field.now }
 {
-    if field.len() > 0 {
-        return None;
-    }
-    Some(Row {
-        kind,
-        label: 0,
-        number: 0,
-    })
+    field.is_empty().then(|| Row::new(kind, 0, 0))
 }
 
 /// Where the first stroke stands, if there is one.
 fn stroke(word: &[u8]) -> Option<usize>
+    ensures { result ≡ position is_stroke word.now }
+{
+    word.iter().position(|byte| *byte == b'/')
+}
+
+/// What stands before the first stroke, and behind it, if there is one.
+fn cut(word: &[u8]) -> Option<(&[u8], &[u8])>
     ensures { MatchOption result
         (cut word.now ≡ None)
-        (λ i. (i < length word.now) × (cut word.now ≡ Some (take i word.now, drop (i + 1) word.now))) }
+        (λ p. cut word.now ≡ Some (p.0.now, p.1.now)) }
 {
-    for (i, byte) in word.iter().enumerate() {
-        if *byte == b'/' {
-            return Some(i);
-        }
-    }
-    None
+    let at = stroke(word)?;
+    Some((&word[..at], &word[at + 1..]))
 }
 
 /// A row of these fields.
 fn row_of(kind: &[u8], label: &[u8], number: &[u8]) -> Option<Row>
     ensures { result ≡ fields_in kind.now label.now number.now }
 {
-    let kind = natural_8(kind)?;
-    let label = natural_16(label)?;
-    let number = integer(number)?;
     Some(Row {
-        kind,
-        label,
-        number,
+        kind: natural_8(kind)?,
+        label: natural_16(label)?,
+        number: integer(number)?,
     })
 }
 
@@ -76,10 +60,9 @@ fn row_of(kind: &[u8], label: &[u8], number: &[u8]) -> Option<Row>
 fn spelled_out(word: &[u8]) -> Option<Row>
     ensures { result ≡ spelled_in word.now }
 {
-    let first = stroke(word)?;
-    let rest = &word[first + 1..];
-    let second = stroke(rest)?;
-    row_of(&word[0..first], &rest[0..second], &rest[second + 1..])
+    let (kind, rest) = cut(word)?;
+    let (label, number) = cut(rest)?;
+    row_of(kind, label, number)
 }
 
 /// A row: a sign with its field, or spelled out.
@@ -87,14 +70,14 @@ pub fn read_row(word: &[u8]) -> Option<Row>
     ensures { result ≡ row_in word.now }
 {
     match word {
-        [b'V', field @ ..] => numbered(VARIABLE, field),
-        [b'F', field @ ..] => numbered(FIGURE, field),
-        [b'O', field @ ..] => numbered(OBJECT, field),
-        [b'S', field @ ..] => labelled(SELECT, field),
-        [b'U', field @ ..] => labelled(UPDATE, field),
-        [b'C', field @ ..] => bare(CLONE, field),
-        [b'L', field @ ..] => bare(LET, field),
-        [b'M', field @ ..] => labelled(METHOD, field),
+        [b'V', field @ ..] => numbered(RowKind::Variable, field),
+        [b'F', field @ ..] => numbered(RowKind::Figure, field),
+        [b'O', field @ ..] => numbered(RowKind::Object, field),
+        [b'S', field @ ..] => labelled(RowKind::Select, field),
+        [b'U', field @ ..] => labelled(RowKind::Update, field),
+        [b'C', field @ ..] => bare(RowKind::Clone, field),
+        [b'L', field @ ..] => bare(RowKind::Let, field),
+        [b'M', field @ ..] => labelled(RowKind::Method, field),
         _ => spelled_out(word),
     }
 }

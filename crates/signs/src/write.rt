@@ -3,11 +3,11 @@ ghost use Rattle.std.specs.Prelude.{Some};
 ghost use Rattle.signs.specs.Laws.{ReadAgain};
 ghost use Rattle.signs.specs.Writing.{row_text, value_text};
 
-use calculus::rows::{CLONE, FIGURE, LET, METHOD, OBJECT, Row, SELECT, UPDATE, VARIABLE};
+use calculus::rows::{Row, RowKind};
 use calculus::values::Value;
 use std::fmt;
 
-/// A row to be written.
+/// A row to be written. How a script writes it is no matter of the calculus, so the type itself has no text.
 #[derive(Clone, Copy)]
 pub struct RowText(pub Row);
 
@@ -20,21 +20,21 @@ impl fmt::Display for RowText {
             label,
             number,
         } = self.0;
-        match kind {
-            VARIABLE => write!(f, "V{number}"),
-            FIGURE => write!(f, "F{number}"),
-            OBJECT => write!(f, "O{number}"),
-            SELECT => write!(f, "S{label}"),
-            UPDATE => write!(f, "U{label}"),
-            CLONE => write!(f, "C"),
-            LET => write!(f, "L"),
-            METHOD => write!(f, "M{label}"),
-            _ => write!(f, "{kind}/{label}/{number}"),
+        match RowKind::try_from(kind) {
+            Ok(RowKind::Variable) => write!(f, "V{number}"),
+            Ok(RowKind::Figure) => write!(f, "F{number}"),
+            Ok(RowKind::Object) => write!(f, "O{number}"),
+            Ok(RowKind::Select) => write!(f, "S{label}"),
+            Ok(RowKind::Update) => write!(f, "U{label}"),
+            Ok(RowKind::Clone) => write!(f, "C"),
+            Ok(RowKind::Let) => write!(f, "L"),
+            Ok(RowKind::Method) => write!(f, "M{label}"),
+            Err(_) => write!(f, "{kind}/{label}/{number}"),
         }
     }
 }
 
-/// A value to be written.
+/// A value to be written, likewise.
 #[derive(Clone, Copy)]
 pub struct ValueText(pub Value);
 

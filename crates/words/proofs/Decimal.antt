@@ -1,7 +1,8 @@
 -- A number read digit by digit.
-use Rattle.std.proofs.Common.{◌≡◌, ℕ, suc, ◌+◌, ◌-◌, ◌*◌, ◌/◌, ◌%◌, ◌^◌, ◌<◌, ◌≤◌, Bool, true, false, cond, eqb, List, [], ◌∷◌, ◌++◌, length, get_or, take, drop, ℤ, pos, negsuc, neg_ℤ, Some, None, decimal, Option, sym, refl, ap, ◌∙◌, mod-lt, arith, pow_mono, w64, SFits}
+use Rattle.std.proofs.Common.{◌≡◌, ℕ, zero, suc, ◌+◌, ◌-◌, ◌*◌, ◌/◌, ◌%◌, ◌^◌, ◌<◌, ◌≤◌, Bool, true, false, cond, eqb, List, [], ◌∷◌, ◌++◌, length, get_or, take, drop, ℤ, pos, negsuc, neg_ℤ, ◌-ℤ◌, SomeIff, Some, None, decimal, Option, sym, refl, ap, ◌∙◌, ⊎_elim, subst, mod-lt, arith, pow_mono, w64, SFits}
 use native.Mathlib.Nat.{mod-add-div'}
-use Rattle.std.proofs.lemmas.Bool.{le-ltb, lt-ltb, eq-eqb, cond-true, cond-false}
+use Rattle.std.proofs.Math.IntN.{+ℤ_idl}
+use Rattle.std.proofs.lemmas.Bool.{le-ltb, lt-ltb, eq-eqb, cond-true, cond-false, cases_lt}
 use Rattle.std.proofs.lemmas.List.{at_drop_more, at_drop_all, take_rest}
 use Rattle.std.proofs.lemmas.Bool.Decides.{nat_tests}
 use Rattle.std.specs.Option.{option_map}
@@ -61,6 +62,16 @@ module _ (bs : List ℕ) (m : get_or bs 0 0 ≡ 45) where
 
   pub minus_none : None ≡ bits_in 64 (take (length bs - 1) (drop 1 bs)) → integer_in bs ≡ None
   minus_none e = minus ∙ ap (option_map (λ (k : ℕ). neg_ℤ (pos k))) (under_none (2 ^ 63 + 1) (2 ^ 64) (natural_in (take (length bs - 1) (drop 1 bs))) (omega arith) e)
+
+-- a number taken off 0
+pub subtracted : (n : ℕ) (r : Option ℤ) → SomeIff r (SFits w64 (pos 0 -ℤ pos n)) (pos 0 -ℤ pos n) → r ≡ below_zero (Some n)
+subtracted n r h = by n r (subst (λ z. SomeIff r (SFits w64 z) z) (+ℤ_idl (neg_ℤ (pos n))) h)
+  where
+    by : (n : ℕ) (r : Option ℤ) → SomeIff r (SFits w64 (neg_ℤ (pos n))) (neg_ℤ (pos n)) → r ≡ below_zero (Some n)
+    by zero None h = absurd (h (record { sfits = omega arith }))
+    by zero (Some z) h = ap Some h.1
+    by (suc n) None h = sym (ap (option_map (λ (k : ℕ). neg_ℤ (pos k))) (cond-false _ _ _ (le-ltb (suc n) (2 ^ 63 + 1) (⊎_elim (λ l. absurd (h (record { sfits = l }))) (λ l. omega arith) (cases_lt n (2 ^ 63))))))
+    by (suc n) (Some z) h = let l : n < 2 ^ 63 = h.0.sfits in ap Some h.1 ∙ sym (ap (option_map (λ (k : ℕ). neg_ℤ (pos k))) (cond-true _ _ _ (lt-ltb (suc n) (2 ^ 63 + 1) (omega arith))))
 
 goes_on : (x : Bool) (o p : Option ℕ) (k v : ℕ) → (o ≡ Some k → p ≡ Some v) → cond x o None ≡ Some k → cond x p None ≡ Some v
 goes_on true o p k v h e = h e

@@ -7,7 +7,7 @@ use Rattle.std.proofs.ByRecursion.{IsAscii-from_all, Decides-by_and}
 use Rattle.std.proofs.lemmas.Bool.Decides.{Decides-ltb}
 use Rattle.std.proofs.lemmas.Bool.{cond-false, and_parts}
 use Rattle.std.specs.Str.{bytes_eq}
-use Rattle.words.specs.Names.{named}
+use Rattle.words.specs.Names.{named, low, all_low}
 
 module _ {K : Type 0} where
   -- a word that is none of the names
@@ -19,19 +19,10 @@ module _ {K : Type 0} where
       apart true d = absurd (h.0 (d refl))
       apart false d = refl
 
--- whether all bytes are below 128
-abbrev low : List ℕ → Bool
-low [] = true
-low (b ∷ bs) = ltb b 128 && low bs
-
 low_text : (bs : List ℕ) → low bs ≡ true → IsUtf8 bs
 low_text bs h = IsUtf8-from_ascii bs (IsAscii-from_all bs ((Decides-by_and (λ b. ltb b 128) (λ b. b < 128) low (λ b. Decides-ltb b 128) refl (λ _ _. refl) bs).0 h))
 
 module _ {K : Type 0} where
-  abbrev pub all_low : List (List ℕ × K) → Bool
-  all_low [] = true
-  all_low (p ∷ ps) = low p.0 && all_low ps
-
   -- a word that is no text
   pub no_text : (ps : List (List ℕ × K)) (w : List ℕ) → all_low ps ≡ true → (IsUtf8 w → ⊥) → named ps w ≡ None
   no_text ps w l h = unnamed ps w (apart ps l)

@@ -1,6 +1,5 @@
 -- The first word of a line.
 use Rattle.std.proofs.Common.{◌≡◌, ℕ, zero, suc, ◌-◌, ◌<◌, ◌≤◌, Bool, true, false, cond, List, [], ◌∷◌, ◌++◌, length, get_or, take, drop, sym, refl, ap, ◌∙◌, ⊎_elim, append_assoc, append-nil, add-zero, arith}
-use native.Mathlib.Nat.{sub-zero}
 use Rattle.std.proofs.lemmas.Bool.{cond-true, cond-false, cases_Bool}
 use Rattle.std.proofs.lemmas.List.{get_or-drop, length-drop, take_rest}
 use Rattle.std.specs.List.{AllByRecursion}
@@ -53,14 +52,13 @@ no_word bs b n blanks r e =
     ∙ none (drop b bs) r₀ (λ l e. blanks.stops (omega (arith, length-drop b bs)) (ap blank (sym (at_front b bs)) ∙ e))
 
 -- b blanks, then a word of n bytes
-pub one_word : (bs : List ℕ) (b n : ℕ) → Run true b bs → Run false n (from b bs) → 0 < n → words_in bs ≡ take (n - 0) (from b bs) ∷ words_in (from n (from b bs))
-one_word bs b n blanks r h =
+pub one_word : (bs : List ℕ) (b n : ℕ) {word rest : List ℕ} → Run true b bs → Run false n (from b bs) → 0 < n → word ≡ take n (from b bs) → rest ≡ drop n (from b bs) → words_in bs ≡ word ∷ words_in rest
+one_word bs b n blanks r h is_word is_rest =
     skip b bs blanks
     ∙ ap words_in (sym (take_rest bs b))
     ∙ gather n [] (from b bs) r
     ∙ some n (from b bs) _ h r.within
-    ∙ ap (λ ws. take n (from b bs) ∷ words_in ws) (sym (take_rest (from b bs) n))
-    ∙ ap (λ k. take k (from b bs) ∷ words_in (from n (from b bs))) (sym (sub-zero n))
+    ∙ cc
 
 ended_before : (w : List ℕ) (us vs : List (List ℕ)) → ended w (us ++ vs) ≡ ended w us ++ vs
 ended_before [] us vs = refl

@@ -1,6 +1,6 @@
 //! Words as numbers in decimal.
-ghost use Rattle.std.specs.Prelude.{◌≡◌, ◌+◌, ◌*◌, ◌^◌, pos, neg_ℤ, Some};
-ghost use Rattle.std.specs.Option.{option_map};
+ghost use Rattle.std.specs.Prelude.{◌≡◌, ◌+◌, ◌*◌, ◌^◌, Some, None, Result, MatchOption};
+ghost use Rattle.std.specs.Result.{result_ok};
 ghost use Rattle.words.specs.Laws.{ReadAgain};
 ghost use Rattle.words.specs.Numbers.{under, bits_in, integer_in};
 
@@ -15,12 +15,12 @@ fn with_digit(value: u64, digit: u8) -> Option<u64>
 pub fn natural(word: &[u8]) -> Option<u64>
     ensures { result ≡ bits_in 64 word.now }
 {
-    if word.len() == 0 {
+    if word.is_empty() {
         return None;
     }
     let mut value = 0u64;
     for byte in word {
-        if *byte < b'0' || *byte > b'9' {
+        if !byte.is_ascii_digit() {
             return None;
         }
         value = with_digit(value, *byte - b'0')?;
@@ -28,55 +28,34 @@ pub fn natural(word: &[u8]) -> Option<u64>
     Some(value)
 }
 
+/// A number of digits alone, where its type holds it.
+fn natural_of<N: TryFrom<u64>>(word: &[u8]) -> Option<N>
+where
+    N::Error: Drop,
+    ensures { MatchOption (bits_in 64 word.now) (result ≡ None) (λ n. (r : Result N N.Error) × N.try_from_gives n r × (result ≡ result_ok r)) }
+{
+    N::try_from(natural(word)?).ok()
+}
+
 /// A number of 32 bits.
 pub fn natural_32(word: &[u8]) -> Option<u32>
     ensures { result ≡ bits_in 32 word.now }
 {
-    match natural(word) {
-        Some(n) if n <= 0xffff_ffff => Some(n as u32),
-        _ => None,
-    }
+    natural_of::<u32>(word)
 }
 
 /// A number of 16 bits.
 pub fn natural_16(word: &[u8]) -> Option<u16>
     ensures { result ≡ bits_in 16 word.now }
 {
-    match natural(word) {
-        Some(n) if n <= 0xffff => Some(n as u16),
-        _ => None,
-    }
+    natural_of::<u16>(word)
 }
 
 /// A number of 8 bits.
 pub fn natural_8(word: &[u8]) -> Option<u8>
     ensures { result ≡ bits_in 8 word.now }
 {
-    match natural(word) {
-        Some(n) if n <= 0xff => Some(n as u8),
-        _ => None,
-    }
-}
-
-/// The number below zero, if it has 64 bits.
-fn negative(n: u64) -> Option<i64>
-    ensures { result ≡ option_map (λ m. neg_ℤ (pos m)) (under (2 ^ 63 + 1) (Some n)) }
-{
-    match n {
-        0..=0x7fff_ffff_ffff_ffff => Some(-(n as i64)),
-        0x8000_0000_0000_0000 => Some(i64::MIN),
-        _ => None,
-    }
-}
-
-/// The number not below zero, if it has 64 bits.
-fn positive(n: u64) -> Option<i64>
-    ensures { result ≡ option_map pos (under (2 ^ 63) (Some n)) }
-{
-    match n {
-        0..=0x7fff_ffff_ffff_ffff => Some(n as i64),
-        _ => None,
-    }
+    natural_of::<u8>(word)
 }
 
 /// A signed number of 64 bits, with `-` where it is below zero.
@@ -84,8 +63,8 @@ pub fn integer(word: &[u8]) -> Option<i64>
     ensures { result ≡ integer_in word.now }
 {
     match word {
-        [b'-', digits @ ..] => negative(natural(digits)?),
-        _ => positive(natural(word)?),
+        [b'-', digits @ ..] => 0i64.checked_sub_unsigned(natural(digits)?),
+        _ => i64::try_from(natural(word)?).ok(),
     }
 }
 

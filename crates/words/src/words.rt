@@ -1,5 +1,6 @@
 //! A line as words.
 ghost use Rattle.std.specs.Prelude.{◌≡◌, [], ◌∷◌, MatchOption};
+ghost use Rattle.std.specs.Iterator.{YieldsFirstRef, item_count};
 ghost use Rattle.words.specs.Laws.{Parted};
 ghost use Rattle.words.specs.Words.{line_text, blank, Run, words_in, left, is_nil};
 
@@ -25,12 +26,10 @@ fn is_blank(byte: u8) -> bool
 fn run_of(bytes: &[u8], blanks: bool) -> usize
     ensures { Run blanks result bytes.now }
 {
-    for (i, byte) in bytes.iter().enumerate() {
-        if is_blank(*byte) != blanks {
-            return i;
-        }
-    }
-    bytes.len()
+    bytes
+        .iter()
+        .position(|byte| is_blank(*byte) != blanks)
+        .unwrap_or(bytes.len())
 }
 
 /// The first word of a line, if there is one, and what stands behind it.
@@ -44,7 +43,7 @@ fn first_word(line: &[u8]) -> Option<(&[u8], &[u8])>
     if len == 0 {
         return None;
     }
-    Some((&line[0..len], &line[len..]))
+    Some(line.split_at(len))
 }
 
 /// The words of a line that are still to be read.
@@ -67,13 +66,16 @@ impl<'a> Words<'a> {
     {
         first_word(self.rest).is_none()
     }
+}
 
-    /// Takes the next word, if there is one.
-    pub fn next_word(&mut self) -> Option<&'a [u8]>
-        ensures { MatchOption result
-            ((left self.old ≡ []) × (left self.new ≡ []))
-            (λ w. left self.old ≡ w.now ∷ left self.new) }
-    {
+impl<'a> Iterator for Words<'a> {
+    type Item = &'a [u8];
+
+    ghost next_gives = { YieldsFirstRef left };
+
+    ghost remaining = { item_count left };
+
+    fn next(&mut self) -> Option<&'a [u8]> {
         let (word, rest) = first_word(self.rest)?;
         self.rest = rest;
         Some(word)

@@ -5,7 +5,7 @@ use Rattle.script.proofs.lines.named_lengths.Given as goal
 
 -- what is left decides as the whole line does
 abbrev pub invariant-loop-word : goal.invariant-loop-word
-invariant-loop-word l = (length l.named ≡ 7) × (lengths_after l.initial.named l.initial.lengths (left l.initial.words) ≡ lengths_after l.named l.lengths (left l.words))
+invariant-loop-word l = lengths_after l.initial.lengths (left l.initial.words) ≡ lengths_after l.lengths (left l.words)
 
 abbrev pub decreases-loop-word : goal.decreases-loop-word
 decreases-loop-word l = length (left l.words)
