@@ -76,20 +76,20 @@ finds_places m l p x = (
 )
 
 -- a refused call changes nothing
-made_not : (m : Meaning) (o : Object) (e : StoreFault) (r : Result ℕ StoreFault) → told answer.Location r ≡ answer.Refused e → with_objects m (added r o m.objects) ≡ m
+made_not : (m : Meaning) (o : Object) (e : StoreFault) (r : Result ℕ StoreFault) → told answer.Location r ≡ Err e → with_objects m (added r o m.objects) ≡ m
 made_not m o e (Ok k) h = absurd (let z : ◌≡◌ {A = ℕ} 0 1 = cc in omega arith)
 made_not m o e (Err f) h = refl
 
-cloned_not : (m : Meaning) (e : StoreFault) (y : Option Object) → told answer.Location (if_some y (λ o. room_for m (length o)) (Err NoLocation)) ≡ answer.Refused e → with_objects m (if_some y (λ o. added (room_for m (length o)) o m.objects) m.objects) ≡ m
+cloned_not : (m : Meaning) (e : StoreFault) (y : Option Object) → told answer.Location (if_some y (λ o. room_for m (length o)) (Err NoLocation)) ≡ Err e → with_objects m (if_some y (λ o. added (room_for m (length o)) o m.objects) m.objects) ≡ m
 cloned_not m e (Some o) h = made_not m o e (room_for m (length o)) h
 cloned_not m e None h = refl
 
 module _ (m : Meaning) (l p : ℕ) (c : Closure) (e : StoreFault) where
-  put_not : (o : Object) → nth m.objects l ≡ Some o → (y : Option Method) → nth o p ≡ y → told (λ _. answer.Updated) (if_some y (λ w. Ok (tt {0})) (Err NoPlace)) ≡ answer.Refused e → updated m l p c ≡ m
+  put_not : (o : Object) → nth m.objects l ≡ Some o → (y : Option Method) → nth o p ≡ y → told (λ _. answer.Updated) (if_some y (λ w. Ok (tt {0})) (Err NoPlace)) ≡ Err e → updated m l p c ≡ m
   put_not o h (Some x) k r = absurd (let z : ◌≡◌ {A = ℕ} 0 1 = cc in omega arith)
   put_not o h None k r = sym (no_update_here m l p c o (sym h) (sym k))
 
-  updated_not : (y : Option Object) → nth m.objects l ≡ y → told (λ _. answer.Updated) (if_some y (λ o. if_some (nth o p) (λ w. Ok (tt {0})) (Err NoPlace)) (Err NoLocation)) ≡ answer.Refused e → updated m l p c ≡ m
+  updated_not : (y : Option Object) → nth m.objects l ≡ y → told (λ _. answer.Updated) (if_some y (λ o. if_some (nth o p) (λ w. Ok (tt {0})) (Err NoPlace)) (Err NoLocation)) ≡ Err e → updated m l p c ≡ m
   updated_not (Some o) h r = put_not o h (nth o p) refl r
   updated_not None h r = sym (no_update_there m l p c (sym h))
 

@@ -1,7 +1,8 @@
 -- Lists of calls, one call on.
-use Rattle.std.proofs.Common.{◌≡◌, ℕ, suc, ◌+◌, ◌<◌, List, [], ◌∷◌, ◌++◌, length, get_or, take, drop, set, sym, refl, ap, ◌∙◌, arith, length-take-le}
+use Rattle.std.proofs.Common.{◌≡◌, ℕ, suc, ◌+◌, ◌<◌, List, [], ◌∷◌, ◌++◌, length, get_or, take, drop, set, Result, sym, refl, ap, ◌∙◌, arith, length-take-le}
 use Rattle.std.proofs.lemmas.List.{take_more, drop_more}
 use Rattle.calculus.specs.declared.code.MethodEntry.{MethodEntry}
+use Rattle.store.specs.declared.faults.StoreFault.{StoreFault}
 use Rattle.store.specs.Meaning.{Meaning}
 use Rattle.store_laws.specs.declared.runs.StoreAnswer.{StoreAnswer}
 use Rattle.store_laws.specs.declared.runs.StoreCall.{StoreCall}
@@ -30,7 +31,7 @@ module _ (table : List MethodEntry) where
     state_more n n' e f =
         f ∙ ap (λ x. meaning_after table x (get_or cs i d)) e ∙ sym (after_push m (take i cs) (get_or cs i d)) ∙ ap (meaning_after_all table m) (sym (take_more cs i d lt))
 
-    pub answers_more : (n : Meaning) (now-are bs : List StoreAnswer) (a : StoreAnswer) → n ≡ meaning_after_all table m (take i cs) → a ≡ answer_to table n (get_or cs i d) → i < length bs → now-are ≡ answers_to table m (take i cs) ++ drop i bs → set now-are i a ≡ answers_to table m (take (i + 1) cs) ++ drop (i + 1) bs
+    pub answers_more : (n : Meaning) (now-are bs : List (Result StoreAnswer StoreFault)) (a : Result StoreAnswer StoreFault) → n ≡ meaning_after_all table m (take i cs) → a ≡ answer_to table n (get_or cs i d) → i < length bs → now-are ≡ answers_to table m (take i cs) ++ drop i bs → set now-are i a ≡ answers_to table m (take (i + 1) cs) ++ drop (i + 1) bs
     answers_more n now-are bs a e f room h =
         let done = answers_to table m (take i cs) in
         let many : length done ≡ i = length_answers m (take i cs) ∙ length-take-le i cs (omega arith) in
