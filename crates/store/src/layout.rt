@@ -1,6 +1,7 @@
 //! What the kinds of store share: the limit that an area sets, and where an object's methods stand in it.
 ghost use Rattle.std.specs.Prelude.{◌≡◌};
 ghost use Rattle.calculus.specs.Held.{counted};
+ghost use Rattle.calculus.specs.Places.{nth};
 ghost use Rattle.store.specs.Layout.{part};
 ghost use Rattle.store.specs.Meaning.{place_from};
 
@@ -24,6 +25,16 @@ pub fn limit(len: usize) -> u32
     } else {
         MOST_ENTRIES as u32
     }
+}
+
+/// The method at a place, from 0, in a stretch of the methods.
+pub fn method_in(methods: &[Method], span: Span, place: u32) -> Option<Method>
+    ensures { result ≡ nth (part methods.now span) place }
+{
+    if place >= span.size {
+        return None;
+    }
+    entry_at(methods, span.first as usize + place as usize)
 }
 
 /// The place, from 0, of the first method with the label in a stretch of the methods.

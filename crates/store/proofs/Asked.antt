@@ -1,0 +1,50 @@
+-- What an answer of the areas says.
+use Rattle.std.proofs.Common.{◌≡◌, ℕ, ◌+◌, ◌<◌, ◌≤◌, Bool, true, false, cond, ltb, leb, List, length, get_or, take, Some, None, Ok, Err, Option, sym, refl, ◌∙◌, arith, length-take-le, get_or-take, ltb-true}
+use Rattle.std.proofs.lemmas.Bool.{leb-true}
+use Rattle.calculus.specs.Places.{nth, if_some}
+use Rattle.calculus.proofs.Places.{nth_in}
+use Rattle.store.specs.declared.areas.Areas.{Areas}
+use Rattle.store.specs.declared.faults.StoreFault.{StoreFault}
+use Rattle.store.specs.declared.faults.StoreFault.TheVariants.{ObjectsFull, MethodsFull, NoLocation}
+use Rattle.store.specs.Areas.{entry_of, room_in}
+use Rattle.store.proofs.Nth.{nth_some, nth_none}
+
+module _ {E : Type 0} (d : E) (es : List E) (n : ℕ) (fits : n ≤ length es) (l : ℕ) where
+  long : length (take n es) ≡ n
+  long = length-take-le n es fits
+
+  there : (e : E) (x : Option E) → x ≡ nth (take n es) l → Ok e ≡ if_some x (λ y. Ok y) (Err NoLocation) → (l < n) × (e ≡ get_or es l d)
+  there e None h k = let z : ◌≡◌ {A = ℕ} 0 1 = cc in absurd (omega arith)
+  there e (Some y) h k =
+      let low : l < n = omega (arith, long, nth_some (take n es) l y (sym h)) in
+      let is = nth_in (take n es) l d (omega (arith, long)) in
+      let same : e ≡ get_or (take n es) l d = cc in
+      (low, same ∙ get_or-take n es l d low)
+
+  nowhere : (f : StoreFault) (x : Option E) → x ≡ nth (take n es) l → Err f ≡ if_some x (λ y. Ok y) (Err NoLocation) → (f ≡ NoLocation) × (n ≤ l)
+  nowhere f (Some y) h k = let z : ◌≡◌ {A = ℕ} 0 1 = cc in absurd (omega arith)
+  nowhere f None h k = (cc, omega (arith, long, nth_none (take n es) l (sym h)))
+
+module _ {E : Type 0} (s : Areas E) where
+  fits : s.object_count ≤ length s.objects.now
+  fits = omega arith
+
+  pub entered : (d : E) (l : ℕ) (e : E) → Ok e ≡ entry_of s l → (l < s.object_count) × (e ≡ get_or s.objects.now l d)
+  entered d l e h = there d s.objects.now s.object_count fits l e _ refl h
+
+  pub not_entered : (d : E) (l : ℕ) (f : StoreFault) → Err f ≡ entry_of s l → (f ≡ NoLocation) × (s.object_count ≤ l)
+  not_entered d l f h = nowhere d s.objects.now s.object_count fits l f _ refl h
+
+  -- room for one object more, of n methods
+  pub record Room (n k : ℕ) : Type 0 where
+    pub here : k ≡ s.object_count
+    pub objects : s.object_count < s.object_limit
+    pub methods : s.method_count + n ≤ s.method_limit
+
+  roomy : (n k : ℕ) (b d : Bool) → ltb s.object_count s.object_limit ≡ b → leb (s.method_count + n) s.method_limit ≡ d → Ok k ≡ cond b (cond d (Ok s.object_count) (Err MethodsFull)) (Err ObjectsFull) → Room n k
+  roomy n k true true h g e = record { here = cc; objects = ltb-true _ _ h; methods = leb-true _ _ g }
+  roomy n k true false h g e = let z : ◌≡◌ {A = ℕ} 0 1 = cc in absurd (omega arith)
+  roomy n k false d h g e = let z : ◌≡◌ {A = ℕ} 0 1 = cc in absurd (omega arith)
+
+  pub roomed : (n k : ℕ) → Ok k ≡ room_in s n → Room n k
+  roomed n k h = roomy n k _ _ refl refl h
