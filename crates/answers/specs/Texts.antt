@@ -6,7 +6,7 @@ use Rattle.calculus.specs.declared.code.Operation.TheVariants as op
 use Rattle.calculus.specs.declared.code.MethodEntry.{MethodEntry}
 use Rattle.calculus.specs.declared.refusals.Place.{Place}
 use Rattle.calculus.specs.declared.refusals.Place.TheVariants.{Whole, Row, Operation as At}
-use Rattle.calculus.specs.declared.rows.Sizes.{Sizes}
+use Rattle.calculus.specs.declared.code.Counts.{Counts}
 use Rattle.calculus.specs.Refusals.{number_of, place_of}
 use Rattle.signs.specs.Writing.{value_text}
 use Rattle.machine_model.specs.declared.answers.RunAnswer.{RunAnswer}
@@ -31,7 +31,7 @@ report_text r =
     ++ (codes " clone " ++ (decimal r.clones
     ++ (codes " let " ++ decimal r.lets))))))))))
 
-abbrev pub sizes_text : Sizes → List ℕ
+abbrev pub sizes_text : Counts → List ℕ
 sizes_text z =
     codes "sizes contents " ++ (decimal z.contents
     ++ (codes " operations " ++ (decimal z.operations

@@ -2,8 +2,8 @@
 ghost use Rattle.std.specs.Prelude.{Some};
 ghost use Rattle.answers.specs.Texts.{place_text, report_text, sizes_text, run_text, answer_text};
 
+use calculus::code::Counts;
 use calculus::refusals::{Place, Refusal};
-use calculus::rows::Sizes;
 use machine_model::answers::RunAnswer;
 use machine_model::state::Report;
 use signs::write::ValueText;
@@ -13,7 +13,7 @@ use trial_layer::faults::TrialFault;
 /// The answer to a call, where it is one line.
 #[derive(Clone, Copy)]
 pub enum Answer {
-    Sizes(Sizes),
+    Sizes(Counts),
     Program(u32),
     Started,
     Ran(RunAnswer),
@@ -66,13 +66,13 @@ impl fmt::Display for ReportText {
 
 /// What rows take, to be written.
 #[derive(Clone, Copy)]
-pub struct SizesText(pub Sizes);
+pub struct SizesText(pub Counts);
 
 impl fmt::Display for SizesText {
     ghost output = { λ t. Some (sizes_text t.0) };
 
     fn fmt<W: fmt::Write>(&self, f: &mut fmt::Formatter<W>) -> fmt::Result {
-        let Sizes {
+        let Counts {
             contents,
             operations,
             methods,

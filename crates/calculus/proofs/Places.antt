@@ -1,19 +1,8 @@
 -- An entry by its place. Assumes nothing.
-use Rattle.std.proofs.Common.{◌≡◌, ℕ, zero, suc, ◌<◌, ◌≤◌, min, List, [], ◌∷◌, reverse, length, get_or, take, Some, None, sym, refl, ap, ◌∙◌, arith}
+use Rattle.std.proofs.Common.{slice_get, ◌≡◌, ℕ, zero, suc, ◌<◌, ◌≤◌, min, List, [], ◌∷◌, reverse, length, get_or, take, Some, None, sym, refl, ap, ◌∙◌, arith}
 use Rattle.std.proofs.lemmas.List.{length-take, length-reverse}
-use Rattle.calculus.specs.Places.{nth}
 
 module _ {X : Type 0} where
-  pub nth_in : (xs : List X) (i : ℕ) (d : X) → i < length xs → Some (get_or xs i d) ≡ nth xs i
-  nth_in [] i d h = absurd (omega arith)
-  nth_in (x ∷ xs) zero d h = refl
-  nth_in (x ∷ xs) (suc i) d h = nth_in xs i d (omega arith)
-
-  pub nth_past : (xs : List X) (i : ℕ) → length xs ≤ i → None ≡ nth xs i
-  nth_past [] i h = refl
-  nth_past (x ∷ xs) zero h = absurd (omega arith)
-  nth_past (x ∷ xs) (suc i) h = nth_past xs i (omega arith)
-
   -- past the end there is nothing more to take
   pub clipped : (n k : ℕ) (xs : List X) → k ≡ min n (length xs) → take k xs ≡ take n xs
   clipped n k [] h = none k ∙ sym (none n)

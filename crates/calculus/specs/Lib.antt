@@ -2,6 +2,7 @@ pub mod Places
 pub mod Refusals
 pub mod Held
 pub mod Terms
+pub mod Kinds
 pub mod Rows
 pub mod Sizes
 pub mod Text

@@ -1,7 +1,7 @@
 -- What the code of a term takes of each table, and the same counted in rows.
 use Rattle.std.specs.Prelude.{ℕ, suc, ◌+◌, Bool, cond, not, ◌||◌, List, [], ◌∷◌, ◌==◌}
 use Rattle.calculus.specs.declared.rows.Row.{Row}
-use Rattle.calculus.specs.declared.rows.Sizes.{Sizes}
+use Rattle.calculus.specs.declared.code.Counts.{Counts}
 use Rattle.calculus.specs.Terms.{Term, var, val, object, select, update, clone, bind, Methods, nil, method}
 use Rattle.calculus.specs.Rows.{many}
 
@@ -51,7 +51,7 @@ abbrev mutual
   entries_all (method l b ms) = entries b + entries_all ms
 
 -- what a program takes of each table: its main list and its bodies, its operations, its method entries
-abbrev pub term_sizes : Term → Sizes
+abbrev pub term_sizes : Term → Counts
 term_sizes t = record { contents = bodies t + 1; operations = nodes t; methods = entries t }
 
 -- how many rows pass a test
@@ -69,5 +69,5 @@ abbrev pub is_operation : Row → Bool
 is_operation r = not (is_method r)
 
 -- what rows take of each table
-abbrev pub row_sizes : List Row → Sizes
+abbrev pub row_sizes : List Row → Counts
 row_sizes rows = record { contents = tally has_body rows + 1; operations = tally is_operation rows; methods = tally is_method rows }

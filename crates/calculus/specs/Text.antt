@@ -31,3 +31,6 @@ rooms t = record { contents = counted (length t.contents.now); operations = coun
 -- no count is past its table
 abbrev pub within : Counts → Counts → Bool
 within c r = nat_le c.contents r.contents && (nat_le c.operations r.operations && nat_le c.methods r.methods)
+
+abbrev pub none_used : Counts
+none_used = record { contents = 0; operations = 0; methods = 0 }

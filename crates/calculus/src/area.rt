@@ -1,21 +1,9 @@
 //! What is used of a code area.
 ghost use Rattle.std.specs.Prelude.{◌≡◌, true, false, MatchOption};
-ghost use Rattle.calculus.specs.Held.{counted};
-ghost use Rattle.calculus.specs.Text.{text_of, used, rooms, within};
+ghost use Rattle.calculus.specs.Text.{text_of, used, rooms, within, none_used};
 
-use crate::code::{Code, Counts, ListEntry, MethodEntry, Operation, Tables};
-use crate::stack::MOST_ENTRIES;
-
-/// How many entries an area counts as.
-fn counted_len(len: usize) -> u32
-    ensures { result ≡ counted len }
-{
-    if len > MOST_ENTRIES {
-        MOST_ENTRIES as u32
-    } else {
-        len as u32
-    }
-}
+use crate::code::{Code, CodeArea, Counts, ListEntry, MethodEntry, Operation, Tables};
+use crate::stack::counted_len;
 
 /// How many entries each table counts as.
 pub fn rooms_of(tables: &Tables<'_>) -> Counts
@@ -52,4 +40,24 @@ pub fn used_of<'b>(tables: &'b Tables<'_>, counts: Counts) -> Option<Code<'b>>
         operations: &operations[..counts.operations as usize],
         methods: &methods[..counts.methods as usize],
     })
+}
+
+impl<'a> CodeArea<'a> {
+    /// An area of which nothing is used yet. Its tables may hold anything.
+    pub fn new(tables: Tables<'a>) -> CodeArea<'a>
+        ensures tables { result.tables ≡ tables.entry }
+        ensures counts { result.counts ≡ none_used }
+    {
+        CodeArea {
+            tables,
+            counts: Counts::default(),
+        }
+    }
+
+    /// The used parts of the tables, unless a count is past its table.
+    pub fn used(&self) -> Option<Code<'_>>
+        ensures { MatchOption result (within self.now.counts (rooms self.now.tables) ≡ false) (λ c. (within self.now.counts (rooms self.now.tables) ≡ true) × (text_of c ≡ used self.now.tables self.now.counts)) }
+    {
+        used_of(&self.tables, self.counts)
+    }
 }

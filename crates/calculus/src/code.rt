@@ -17,23 +17,23 @@ pub enum Operation {
 }
 
 /// An entry of the contents: where a list stands in the operation table.
-#[derive(Clone, Copy)]
+#[derive(Clone, Copy, Default)]
 pub struct ListEntry {
     pub first: u32,
     pub len: u32,
-    /// 0 for a body; for a main list the number of its givens and 1.
+    /// 0 for a body; for a main list the number of its givens and 1: the format of a code area, as it is lent and read.
     pub mark: u32,
 }
 
 /// An entry of the method table: a label, and the list of its body.
-#[derive(Clone, Copy)]
+#[derive(Clone, Copy, Default)]
 pub struct MethodEntry {
     pub label: u16,
     pub list: u32,
 }
 
-/// How many entries of each table are used.
-#[derive(Clone, Copy)]
+/// How many entries of each table: what is used of an area, or what a program takes of it.
+#[derive(Clone, Copy, PartialEq, Eq, Debug, Default)]
 pub struct Counts {
     pub contents: u32,
     pub operations: u32,
@@ -46,6 +46,13 @@ pub struct Tables<'a> {
     pub contents: &'a mut [ListEntry],
     pub operations: &'a mut [Operation],
     pub methods: &'a mut [MethodEntry],
+}
+
+/// A code area: its tables, and how much of each is used. A count may be past its table; each call that reads the area looks at that first.
+#[derive(Drop)]
+pub struct CodeArea<'a> {
+    pub tables: Tables<'a>,
+    pub counts: Counts,
 }
 
 /// The used parts of the three tables, as they are lent to be read.

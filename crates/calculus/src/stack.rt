@@ -1,10 +1,18 @@
 //! A bounded stack over a lent slice: return frames in a run, pending lists in listing back.
-ghost use Rattle.std.specs.Prelude.{◌≡◌, ℕ, ◌+◌, ◌-◌, ◌*◌, ◌<◌, ◌≤◌, min, List, [], ◌∷◌, ◌++◌, length, MatchOption, MatchResult, nat_lt};
-ghost use Rattle.calculus.specs.Places.{nth};
+ghost use Rattle.std.specs.Prelude.{slice_get, ◌≡◌, ℕ, ◌+◌, ◌-◌, ◌*◌, ◌<◌, ◌≤◌, min, List, [], ◌∷◌, ◌++◌, length, MatchOption, MatchResult, nat_lt};
 ghost use Rattle.calculus.specs.Held.{counted, laid, held, room};
+
+use crate::lookup::entry_at;
 
 /// An area of more entries than this counts as this long.
 pub const MOST_ENTRIES: usize = 1_048_576;
+
+/// How many entries an area of this length counts as.
+pub fn counted_len(len: usize) -> u32
+    ensures { result ≡ counted len }
+{
+    len.min(MOST_ENTRIES) as u32
+}
 
 /// The entries that a stack holds are the first `count` of the lent slice, the top last.
 /// A count past the slice counts as the slice's length, so every value of the type is a stack.
@@ -30,22 +38,14 @@ impl<'a, T: Copy> Stack<'a, T> {
         ensures held { result ≡ length (held self.now) }
         ensures least { result ≡ min self.now.count (length self.now.entries.now) }
     {
-        if self.count < self.entries.len() {
-            self.count
-        } else {
-            self.entries.len()
-        }
+        self.count.min(self.entries.len())
     }
 
     /// How many entries it can hold.
     pub fn room(&self) -> usize
         ensures { result ≡ room self.now }
     {
-        if self.entries.len() < MOST_ENTRIES {
-            self.entries.len()
-        } else {
-            MOST_ENTRIES
-        }
+        counted_len(self.entries.len()) as usize
     }
 
     /// Whether one more finds room.
@@ -53,20 +53,14 @@ impl<'a, T: Copy> Stack<'a, T> {
         ensures laid { result ≡ nat_lt (length (laid self.now)) (room self.now) }
         ensures held { result ≡ nat_lt (length (held self.now)) (room self.now) }
     {
-        let len = self.len();
-        len < MOST_ENTRIES && len < self.entries.len()
+        self.len() < self.room()
     }
 
     /// The entry at a place, the oldest at 0.
     pub fn get(&self, place: usize) -> Option<T>
-        ensures { result ≡ nth (laid self.now) place }
+        ensures { result ≡ slice_get (laid self.now) place }
     {
-        let entries: &[T] = &*self.entries;
-        if place < self.count && place < entries.len() {
-            Some(entries[place])
-        } else {
-            None
-        }
+        entry_at(&self.entries[..self.len()], place)
     }
 
     /// Puts `x` on top of a stack that has room.
@@ -102,12 +96,9 @@ impl<'a, T: Copy> Stack<'a, T> {
             (λ x. held self.old ≡ x ∷ held self.new) }
         ensures room { room self.new ≡ room self.old }
     {
-        let len = self.len();
-        if len == 0 {
-            return None;
-        }
-        self.count = len - 1;
-        Some(self.entries[len - 1])
+        let last = self.len().checked_sub(1)?;
+        self.count = last;
+        Some(self.entries[last])
     }
 
     /// Lets every entry go.

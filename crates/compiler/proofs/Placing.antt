@@ -2,7 +2,7 @@
 use Rattle.std.proofs.Common.{◌≡◌, ℕ, suc, ◌+◌, ◌^◌, ◌<◌, ◌≤◌, Bool, true, false, cond, ltb, leb, List, [], ◌∷◌, map, length, take, Ok, Err, sym, refl, ap, ◌∙◌, subst, append-nil, arith, length-take-le, le-ltb, le-leb, leb-true}
 use Rattle.std.proofs.lemmas.Bool.{and_parts, cond-true, cond-false}
 use Rattle.calculus.specs.declared.rows.Row.{Row}
-use Rattle.calculus.specs.declared.rows.Sizes.{Sizes}
+use Rattle.calculus.specs.declared.code.Counts.{Counts}
 use Rattle.calculus.specs.declared.code.Counts.{Counts}
 use Rattle.calculus.specs.declared.code.Tables.{Tables}
 use Rattle.calculus.specs.declared.refusals.Refusal.TheVariants.{ContentsFull, OperationsFull, MethodsFull}
@@ -80,7 +80,7 @@ lengths_used t c w =
     (length-take-le c.operations t.operations.now (omega (arith, w.operations)))
     (length-take-le c.methods t.methods.now (omega (arith, w.methods)))
 
-module _ (rows : List Row) (g : ℕ) (t : Tables) (c R : Counts) (z : Sizes) (er : R ≡ rooms t) (fit : within c R ≡ true) (acc : (x : Term) × Writes rows g x × (z ≡ term_sizes x)) where
+module _ (rows : List Row) (g : ℕ) (t : Tables) (c R : Counts) (z : Counts) (er : R ≡ rooms t) (fit : within c R ≡ true) (acc : (x : Term) × Writes rows g x × (z ≡ term_sizes x)) where
   -- the rows are those of one size
   sizes_of : (x : Term) → Writes rows g x → z ≡ term_sizes x
   sizes_of x w = acc.2 ∙ sym (sizes_are rows acc.0 acc.1.is) ∙ sizes_are rows x w.is
@@ -100,9 +100,9 @@ module _ (rows : List Row) (g : ℕ) (t : Tables) (c R : Counts) (z : Sizes) (er
   small =
       let n = acc.1.readable.few_rows in
       let e = rows_sizes in
-      let a : z.contents ≡ tally has_body rows + 1 = ap (λ (s : Sizes). s.contents) e in
-      let b : z.operations ≡ tally is_operation rows = ap (λ (s : Sizes). s.operations) e in
-      let d : z.methods ≡ tally is_method rows = ap (λ (s : Sizes). s.methods) e in
+      let a : z.contents ≡ tally has_body rows + 1 = ap (λ (s : Counts). s.contents) e in
+      let b : z.operations ≡ tally is_operation rows = ap (λ (s : Counts). s.operations) e in
+      let d : z.methods ≡ tally is_method rows = ap (λ (s : Counts). s.methods) e in
       record {
         contents = omega (arith, inside.contents, tally_le has_body rows);
         operations = omega (arith, inside.operations, tally_le is_operation rows);
@@ -118,9 +118,9 @@ module _ (rows : List Row) (g : ℕ) (t : Tables) (c R : Counts) (z : Sizes) (er
         let x = acc.0 in
         let w = acc.1 in
         let e = acc.2 in
-        let a : z.contents ≡ bodies x + 1 = ap (λ (s : Sizes). s.contents) e in
-        let b : z.operations ≡ nodes x = ap (λ (s : Sizes). s.operations) e in
-        let d : z.methods ≡ entries x = ap (λ (s : Sizes). s.methods) e in
+        let a : z.contents ≡ bodies x + 1 = ap (λ (s : Counts). s.contents) e in
+        let b : z.operations ≡ nodes x = ap (λ (s : Counts). s.operations) e in
+        let d : z.methods ≡ entries x = ap (λ (s : Counts). s.methods) e in
         let k = nodes_are x in
         let r = inside_after in
         record {
@@ -151,9 +151,9 @@ module _ (rows : List Row) (g : ℕ) (t : Tables) (c R : Counts) (z : Sizes) (er
           let s = sized_list (g + 1) x (area t c) in
           let q = is_put x w in
           let f = sizes_of x w in
-          let n : e.contents ≡ c.contents + z.contents = ap (λ (A : Area). A.n) q ∙ s.n_is ∙ omega (arith, ap (λ (y : Sizes). y.contents) f) in
-          let o : e.operations ≡ c.operations + z.operations = ap (λ (A : Area). A.o) q ∙ s.o_is ∙ omega (arith, ap (λ (y : Sizes). y.operations) f, nodes_are x) in
-          let m : e.methods ≡ c.methods + z.methods = ap (λ (A : Area). A.m) q ∙ s.m_is ∙ omega (arith, ap (λ (y : Sizes). y.methods) f) in
+          let n : e.contents ≡ c.contents + z.contents = ap (λ (A : Area). A.n) q ∙ s.n_is ∙ omega (arith, ap (λ (y : Counts). y.contents) f) in
+          let o : e.operations ≡ c.operations + z.operations = ap (λ (A : Area). A.o) q ∙ s.o_is ∙ omega (arith, ap (λ (y : Counts). y.operations) f, nodes_are x) in
+          let m : e.methods ≡ c.methods + z.methods = ap (λ (A : Area). A.m) q ∙ s.m_is ∙ omega (arith, ap (λ (y : Counts). y.methods) f) in
           moved ∙ sym (same_counts e (moved_by c z) n o m)
 
       -- what is known of every term of these rows, at the one that was found
@@ -161,9 +161,9 @@ module _ (rows : List Row) (g : ℕ) (t : Tables) (c R : Counts) (z : Sizes) (er
       whole x w =
           let q = sizes_of x w in
           let r = inside_after in
-          let a : z.contents ≡ bodies x + 1 = ap (λ (s : Sizes). s.contents) q in
-          let b : z.operations ≡ nodes x = ap (λ (s : Sizes). s.operations) q in
-          let f : z.methods ≡ entries x = ap (λ (s : Sizes). s.methods) q in
+          let a : z.contents ≡ bodies x + 1 = ap (λ (s : Counts). s.contents) q in
+          let b : z.operations ≡ nodes x = ap (λ (s : Counts). s.operations) q in
+          let f : z.methods ≡ entries x = ap (λ (s : Counts). s.methods) q in
           let k = nodes_are x in
           ap (used u) (counts_are x w) ∙ ap text (is_put x w)
           ∙ appended g (g + 1) (omega arith) x (area t c) (omega (arith, r.contents)) (omega (arith, r.operations)) (omega (arith, r.methods))
@@ -183,9 +183,9 @@ module _ (rows : List Row) (g : ℕ) (t : Tables) (c R : Counts) (z : Sizes) (er
           let x = acc.0 in
           let k = nodes_are x in
           let r = inside_after in
-          let a : z.contents ≡ bodies x + 1 = ap (λ (s : Sizes). s.contents) acc.2 in
-          let b : z.operations ≡ nodes x = ap (λ (s : Sizes). s.operations) acc.2 in
-          let f : z.methods ≡ entries x = ap (λ (s : Sizes). s.methods) acc.2 in
+          let a : z.contents ≡ bodies x + 1 = ap (λ (s : Counts). s.contents) acc.2 in
+          let b : z.operations ≡ nodes x = ap (λ (s : Counts). s.operations) acc.2 in
+          let f : z.methods ≡ entries x = ap (λ (s : Counts). s.methods) acc.2 in
           let l = below g (g + 1) (omega arith) x (area t c) (omega (arith, r.contents)) (omega (arith, r.operations)) (omega (arith, r.methods)) in
           let q = is_put x acc.1 in
           let n : take c.contents u.contents.now ≡ take c.contents t.contents.now = ap (λ (A : Area). take c.contents A.contents) q ∙ l.0 in

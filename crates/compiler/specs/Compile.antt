@@ -1,7 +1,7 @@
 -- What compile answers and leaves, for all arguments and all contents.
 use Rattle.std.specs.Prelude.{◌≡◌, ℕ, ◌+◌, true, cond, List, Ok, Err, Result, nat_lt}
 use Rattle.calculus.specs.declared.rows.Row.{Row}
-use Rattle.calculus.specs.declared.rows.Sizes.{Sizes}
+use Rattle.calculus.specs.declared.code.Counts.{Counts}
 use Rattle.calculus.specs.declared.code.Counts.{Counts}
 use Rattle.calculus.specs.declared.code.Tables.{Tables}
 use Rattle.calculus.specs.declared.refusals.Refusal.{Refusal}
@@ -16,11 +16,11 @@ use Rattle.rows.specs.Verdict.{verdict}
 use Rattle.rows.specs.Laws.{Writes}
 
 -- the counts after a program of these sizes
-abbrev pub moved_by : Counts → Sizes → Counts
+abbrev pub moved_by : Counts → Counts → Counts
 moved_by c z = record { contents = c.contents + z.contents; operations = c.operations + z.operations; methods = c.methods + z.methods }
 
 -- 10, 11, 12, on what the whole program needs
-abbrev pub placed : Counts → Counts → Result Sizes Refusal → Result ℕ Refusal
+abbrev pub placed : Counts → Counts → Result Counts Refusal → Result ℕ Refusal
 placed r c (Err e) = Err e
 placed r c (Ok z) =
     cond (nat_lt r.contents (moved_by c z).contents) (Err ContentsFull)

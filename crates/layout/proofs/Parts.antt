@@ -1,15 +1,14 @@
 -- A list that stands in another from a place on.
-use Rattle.std.proofs.Common.{◌≡◌, ℕ, zero, suc, ◌+◌, ◌<◌, ◌≤◌, List, [], ◌∷◌, ◌++◌, length, Some, refl, subst, arith}
-use Rattle.calculus.specs.Places.{nth}
+use Rattle.std.proofs.Common.{slice_get, ◌≡◌, ℕ, zero, suc, ◌+◌, ◌<◌, ◌≤◌, List, [], ◌∷◌, ◌++◌, length, Some, refl, subst, arith}
 
 module _ {A : Type 0} where
   -- what stands at a place stays there when more is appended
-  pub get_more : (xs ys : List A) (i : ℕ) (x : A) → nth xs i ≡ Some x → nth (xs ++ ys) i ≡ Some x
+  pub get_more : (xs ys : List A) (i : ℕ) (x : A) → slice_get xs i ≡ Some x → slice_get (xs ++ ys) i ≡ Some x
   get_more [] ys i x h = absurd (let z : ◌≡◌ {A = ℕ} 0 1 = cc in omega arith)
   get_more (y ∷ xs) ys zero x h = h
   get_more (y ∷ xs) ys (suc i) x h = get_more xs ys i x h
 
-  pub get_below : (xs : List A) (p : ℕ) (x : A) → nth xs p ≡ Some x → p < length xs
+  pub get_below : (xs : List A) (p : ℕ) (x : A) → slice_get xs p ≡ Some x → p < length xs
   get_below [] p x h = absurd (let z : ◌≡◌ {A = ℕ} 0 1 = cc in omega arith)
   get_below (y ∷ xs) zero x h = omega arith
   get_below (y ∷ xs) (suc p) x h = let k = get_below xs p x h in omega arith
@@ -17,7 +16,7 @@ module _ {A : Type 0} where
   -- ys stands in xs from place p on
   abbrev pub Part : List A → ℕ → List A → Type 0
   Part xs p [] = p ≤ length xs
-  Part xs p (y ∷ ys) = (nth xs p ≡ Some y) × Part xs (suc p) ys
+  Part xs p (y ∷ ys) = (slice_get xs p ≡ Some y) × Part xs (suc p) ys
 
   pub part_in : (xs : List A) (p : ℕ) (ys : List A) → Part xs p ys → p ≤ length xs
   part_in xs p [] h = h

@@ -1,10 +1,9 @@
 -- The layout stands for the tree of the compiled term, and what is appended disturbs nothing.
-use Rattle.std.proofs.Common.{◌≡◌, ℕ, suc, ◌+◌, ◌<◌, List, [], ◌∷◌, ◌++◌, length, Some, sym, refl, ap, subst, arith, length-append}
+use Rattle.std.proofs.Common.{slice_get, ◌≡◌, ℕ, suc, ◌+◌, ◌<◌, List, [], ◌∷◌, ◌++◌, length, Some, sym, refl, ap, subst, arith, length-append}
 use Rattle.calculus.specs.declared.code.ListEntry.{ListEntry}
 use Rattle.calculus.specs.declared.code.MethodEntry.{MethodEntry}
 use Rattle.calculus.specs.declared.code.Operation.{Operation}
 use Rattle.calculus.specs.declared.values.Value.TheVariants.{Figure, Location}
-use Rattle.calculus.specs.Places.{nth}
 use Rattle.calculus.specs.Terms.{Term, var, val, object, select, update, clone, bind, Methods, nil, method}
 use Rattle.calculus.specs.Rows.{many}
 use Rattle.calculus.specs.Sizes.{bodies, entries}
@@ -23,7 +22,7 @@ module _ (T U : Text) where
   named_more : (l n : ℕ) (P Q : ListEntry → Type 0) → ((e : ListEntry) → P e → Q e) → Named T l n P → Named (joined T U) l n Q
   named_more l n P Q f h = record { above = h.above; listed = listed_more n P Q f h.listed }
 
-  op_more : (p : ℕ) (o : Operation) → nth T.operations p ≡ Some o → nth (joined T U).operations p ≡ Some o
+  op_more : (p : ℕ) (o : Operation) → slice_get T.operations p ≡ Some o → slice_get (joined T U).operations p ≡ Some o
   op_more p o h = get_more T.operations U.operations p o h
 
   mutual
@@ -82,7 +81,7 @@ module _ (T : Text) where
   table_after c m a ys h = subst (λ (n : ℕ). Part T.methods (m + n) ys) (table_length c a) (part_back T.methods m (table c a) ys h)
 
   module _ (l p q : ℕ) (xs : List Operation) (o : Operation) where
-    last_op : Part T.operations p (xs ++ (o ∷ [])) → nth T.operations (p + length xs) ≡ Some o
+    last_op : Part T.operations p (xs ++ (o ∷ [])) → slice_get T.operations (p + length xs) ≡ Some o
     last_op h = (part_back T.operations p xs (o ∷ []) h).0
 
     past_op : (r : Rest) → RestAt T l (p + length (xs ++ (o ∷ []))) q r → RestAt T l (suc (p + length xs)) q r

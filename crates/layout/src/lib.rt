@@ -4,36 +4,26 @@
 ghost use Rattle.layout.specs.Laws.{LaidOut, Lasts, LayoutSizes, OneTerm, Worked};
 
 /// A compiled program stands, under its number, for the operation tree of its term.
-pub fn laid_out() -> u8
+pub fn laid_out()
     ensures { LaidOut }
-{
-    0
-}
+{}
 
 /// What stands in the tables still stands when more is appended to them.
-pub fn lasts() -> u8
+pub fn lasts()
     ensures { Lasts }
-{
-    0
-}
+{}
 
 /// The layout of a term takes of each table what the term's sizes say.
-pub fn layout_sizes() -> u8
+pub fn layout_sizes()
     ensures { LayoutSizes }
-{
-    0
-}
+{}
 
 /// A table is the rows of one term at most.
-pub fn one_term() -> u8
+pub fn one_term()
     ensures { OneTerm }
-{
-    0
-}
+{}
 
 /// Two layouts, written out.
-pub fn worked() -> u8
+pub fn worked()
     ensures { Worked }
-{
-    0
-}
+{}

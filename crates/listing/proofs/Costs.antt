@@ -1,8 +1,8 @@
 -- Each turn lowers the cost.
-use Rattle.std.proofs.Common.{◌≡◌, ℕ, zero, suc, ◌+◌, ◌<◌, ◌≤◌, Bool, true, false, cond, eqb, ltb, List, [], ◌∷◌, ◌++◌, length, Some, None, Ok, Err, Option, Result, sym, refl, ap, ◌∙◌, subst, arith, ltb-true}
+use Rattle.std.proofs.Common.{slice_get, ◌≡◌, ℕ, zero, suc, ◌+◌, ◌<◌, ◌≤◌, Bool, true, false, cond, eqb, ltb, List, [], ◌∷◌, ◌++◌, length, Some, None, Ok, Err, Option, Result, sym, refl, ap, ◌∙◌, subst, arith, ltb-true}
 use borrow.Author.Tests.{eqb-false}
 use Rattle.std.proofs.lemmas.List.{length-append}
-use Rattle.calculus.specs.Places.{nth, if_some}
+use Rattle.calculus.specs.Places.{if_some}
 use Rattle.calculus.specs.declared.code.ListEntry.{ListEntry}
 use Rattle.calculus.specs.declared.rows.Row.{Row}
 use Rattle.listing.specs.declared.pending.Pending.{Pending}
@@ -57,7 +57,7 @@ pub record Begun (T : Text) (m : Room) (rows : List Row) (ps : List Pending) (s 
   pub fits : length s.rows ≤ m.of_rows
 
 module _ (T : Text) (m : Room) (l : ℕ) (rows : List Row) (ps : List Pending) (s : State) (within : length rows ≤ m.of_rows) where
-  at_written : (e : ListEntry) → nth T.contents l ≡ Some e → (e.len ≡ 0 → ⊥) → length ps < m.of_lists → (w : Result (List Row) Refusal) → written T m.of_rows l e e.len rows ≡ w → pushed w (fresh l) ps ≡ Ok s → Begun T m rows ps s
+  at_written : (e : ListEntry) → slice_get T.contents l ≡ Some e → (e.len ≡ 0 → ⊥) → length ps < m.of_lists → (w : Result (List Row) Refusal) → written T m.of_rows l e e.len rows ≡ w → pushed w (fresh l) ps ≡ Ok s → Begun T m rows ps s
   unfolding load
   at_written e f z o (Ok rs) q p =
       let a = written_longer T m.of_rows l e e.len rows rs q in
@@ -67,16 +67,16 @@ module _ (T : Text) (m : Room) (l : ℕ) (rows : List Row) (ps : List Pending) (
       subst (λ (x : State). Begun T m rows ps x) t (record { cheaper = omega (arith, a.long); lists = omega arith; fits = g })
   at_written e f z o (Err y) q p = absurd (let z : ◌≡◌ {A = ℕ} 0 1 = cc in omega arith)
 
-  at_entry : length ps < m.of_lists → (e : ListEntry) → nth T.contents l ≡ Some e → (b : Bool) → eqb e.len 0 ≡ b → cond b (Err (Astray l 0)) (pushed (written T m.of_rows l e e.len rows) (fresh l) ps) ≡ Ok s → Begun T m rows ps s
+  at_entry : length ps < m.of_lists → (e : ListEntry) → slice_get T.contents l ≡ Some e → (b : Bool) → eqb e.len 0 ≡ b → cond b (Err (Astray l 0)) (pushed (written T m.of_rows l e e.len rows) (fresh l) ps) ≡ Ok s → Begun T m rows ps s
   at_entry o e f true z p = absurd (let z : ◌≡◌ {A = ℕ} 0 1 = cc in omega arith)
   at_entry o e f false z p = at_written e f (eqb-false _ _ z) o (written T m.of_rows l e e.len rows) refl p
 
-  at_contents : length ps < m.of_lists → (x : Option ListEntry) → nth T.contents l ≡ x → if_some x (begun_from T m.of_rows l rows ps) (Err (Astray l 0)) ≡ Ok s → Begun T m rows ps s
+  at_contents : length ps < m.of_lists → (x : Option ListEntry) → slice_get T.contents l ≡ x → if_some x (begun_from T m.of_rows l rows ps) (Err (Astray l 0)) ≡ Ok s → Begun T m rows ps s
   at_contents o (Some e) f p = at_entry o e f (eqb e.len 0) refl p
   at_contents o None f p = absurd (let z : ◌≡◌ {A = ℕ} 0 1 = cc in omega arith)
 
-  at_stack : (b : Bool) → ltb (length ps) m.of_lists ≡ b → cond b (if_some (nth T.contents l) (begun_from T m.of_rows l rows ps) (Err (Astray l 0))) (Err (StackFull l)) ≡ Ok s → Begun T m rows ps s
-  at_stack true b p = at_contents (ltb-true _ _ b) (nth T.contents l) refl p
+  at_stack : (b : Bool) → ltb (length ps) m.of_lists ≡ b → cond b (if_some (slice_get T.contents l) (begun_from T m.of_rows l rows ps) (Err (Astray l 0))) (Err (StackFull l)) ≡ Ok s → Begun T m rows ps s
+  at_stack true b p = at_contents (ltb-true _ _ b) (slice_get T.contents l) refl p
   at_stack false b p = absurd (let z : ◌≡◌ {A = ℕ} 0 1 = cc in omega arith)
 
   pub begun_cheaper : begun T m l rows ps ≡ Ok s → Begun T m rows ps s
@@ -84,7 +84,7 @@ module _ (T : Text) (m : Room) (l : ℕ) (rows : List Row) (ps : List Pending) (
 
 -- an operation that is passed is one of the list's
 pub passes_within : (T : Text) (p : Pending) → passes (step_of T p) ≡ true → p.next < len_of T p.list
-passes_within T p h = go (nth T.contents p.list) h
+passes_within T p h = go (slice_get T.contents p.list) h
   where
     inner : (e : ListEntry) (b : Bool) (d : Step) → ltb p.next e.len ≡ b → passes (cond b d step.Ended) ≡ true → p.next < e.len
     inner e true d q k = ltb-true _ _ q

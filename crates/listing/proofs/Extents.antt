@@ -1,10 +1,10 @@
 -- The lists of a program.
-use Rattle.std.proofs.Common.{◌≡◌, ℕ, suc, ◌+◌, ◌<◌, ◌≤◌, cond, eqb, List, [], ◌∷◌, ◌++◌, length, get_or, drop, Some, None, refl, ap, ◌∙◌, add-one, arith, ne_eqb}
+use Rattle.std.proofs.Common.{slice_get, ◌≡◌, ℕ, suc, ◌+◌, ◌<◌, ◌≤◌, cond, eqb, List, [], ◌∷◌, ◌++◌, length, get_or, drop, Some, None, refl, ap, ◌∙◌, add-one, arith, ne_eqb}
 use Rattle.std.proofs.lemmas.Bool.{cond-false}
 use Rattle.std.proofs.lemmas.List.{at_drop_more, at_drop_all}
 use Rattle.calculus.specs.declared.code.ListEntry.{ListEntry}
 use Rattle.calculus.specs.declared.code.Operation.{Operation}
-use Rattle.calculus.specs.Places.{nth, if_some}
+use Rattle.calculus.specs.Places.{if_some}
 use Rattle.calculus.specs.Text.{joined}
 use Rattle.calculus.specs.Layout.{spine, lists, contents_of, compiled}
 use Rattle.layout.proofs.Lengths.{lists_length}
@@ -25,7 +25,7 @@ run_bodies p [] es h = h
 run_bodies p (x ∷ xs) es h = ap suc (run_bodies (p + length x) xs es h)
 
 -- an entry after others
-found : (es : List ListEntry) (e : ListEntry) (ys zs : List ListEntry) → nth ((es ++ (e ∷ ys)) ++ zs) (length es) ≡ Some e
+found : (es : List ListEntry) (e : ListEntry) (ys zs : List ListEntry) → slice_get ((es ++ (e ∷ ys)) ++ zs) (length es) ≡ Some e
 found [] e ys zs = refl
 found (x ∷ es) e ys zs = found es e ys zs
 

@@ -1,5 +1,5 @@
 -- A list that stands for a term is listed back as the term's rows.
-use Rattle.std.proofs.Common.{◌≡◌, ℕ, zero, suc, ◌+◌, ◌*◌, ◌<◌, ◌≤◌, cond, eqb, ltb, List, [], ◌∷◌, ◌++◌, map, length, pos, Some, Ok, Err, Result, sym, refl, ap, ◌∙◌, subst, add-zero, arith, le-ltb, lt-ltb, ne_eqb}
+use Rattle.std.proofs.Common.{slice_get, ◌≡◌, ℕ, zero, suc, ◌+◌, ◌*◌, ◌<◌, ◌≤◌, cond, eqb, ltb, List, [], ◌∷◌, ◌++◌, map, length, pos, Some, Ok, Err, Result, sym, refl, ap, ◌∙◌, subst, add-zero, arith, le-ltb, lt-ltb, ne_eqb}
 use lib.ListN.{length-map}
 use Rattle.std.proofs.lemmas.List.{length-append, append_assoc, append-nil}
 use Rattle.std.proofs.lemmas.Bool.{cond-true, cond-false}
@@ -10,7 +10,7 @@ use Rattle.calculus.specs.declared.rows.Row.{Row}
 use Rattle.calculus.specs.declared.refusals.Refusal.{Refusal}
 use Rattle.calculus.specs.declared.refusals.Refusal.TheVariants.{NoProgram}
 use Rattle.calculus.specs.declared.values.Value.TheVariants.{Figure, Location}
-use Rattle.calculus.specs.Places.{nth, if_some}
+use Rattle.calculus.specs.Places.{if_some}
 use Rattle.calculus.specs.Terms.{Term, var, val, object, select, update, clone, bind, Methods, nil, method}
 use Rattle.calculus.specs.Rows.{many, rows_of, method_rows, plain}
 use Rattle.calculus.specs.Trees.{trans, done}
@@ -68,8 +68,8 @@ module _ (T : Text) (m : Room) where
   abbrev To : Term → ℕ → ℕ → List Row → List Pending → Type 0
   To t l k rows ps = Leads (at rows (pend l 0 0 ∷ ps)) (at (rows ++ body_rows t) (pend l k (last t) ∷ ps))
 
-  module _ (l : ℕ) (e : ListEntry) (f : nth T.contents l ≡ Some e) where
-    pub step_found : (j i : ℕ) (o : Operation) → j < e.len → nth T.operations (e.first + j) ≡ Some o → step_of T (pend l j i) ≡ step_at T (pend l j i) o
+  module _ (l : ℕ) (e : ListEntry) (f : slice_get T.contents l ≡ Some e) where
+    pub step_found : (j i : ℕ) (o : Operation) → j < e.len → slice_get T.operations (e.first + j) ≡ Some o → step_of T (pend l j i) ≡ step_at T (pend l j i) o
     step_found j i o h g = ap (λ x. if_some x (step_in T (pend l j i)) step.Astray) f ∙ cond-true _ _ _ (lt-ltb j e.len h) ∙ ap (λ x. if_some x (step_at T (pend l j i)) step.Astray) g
 
     pub step_ended : (j i : ℕ) → e.len ≤ j → step_of T (pend l j i) ≡ step.Ended
@@ -85,7 +85,7 @@ module _ (T : Text) (m : Room) where
   -- the list of a body, as far as there is room for it
   abbrev Lists : Term → ℕ → Type 0
   Lists b n =
-      (e : ListEntry) (rows : List Row) (ps : List Pending) → nth T.contents n ≡ Some e → Spine T n e.first e.len b →
+      (e : ListEntry) (rows : List Row) (ps : List Pending) → slice_get T.contents n ≡ Some e → Spine T n e.first e.len b →
       length rows + length (body_rows b) ≤ m.of_rows → length ps + nesting b < m.of_lists → To b n e.len rows ps
 
   body_on : (l n : ℕ) (b : Term) (rows : List Row) (ps : List Pending) → Named T l n (λ e. Spine T n e.first e.len b) → length rows + length (rows_of b) ≤ m.of_rows → length ps + nesting b < m.of_lists → Lists b n →
@@ -97,19 +97,19 @@ module _ (T : Text) (m : Room) where
       let w = length-append rows (own_rows b) in
       (own_begun T m n b rows ps e g.listed.found g.listed.holds (omega arith) (omega arith), whole n e g.listed.found b rows ps (ih e (rows ++ own_rows b) ps g.listed.found g.listed.holds (omega arith) free))
 
-  module _ (l : ℕ) (e : ListEntry) (f : nth T.contents l ≡ Some e) where
-    head_on : (k : ℕ) (o : Operation) (rows : List Row) (ps : List Pending) → k ≡ 1 → k ≤ e.len → nth T.operations e.first ≡ Some o → step_at T (pend l 0 0) o ≡ step.Passed → Leads (at rows (pend l 0 0 ∷ ps)) (at (rows ++ []) (pend l k 0 ∷ ps))
+  module _ (l : ℕ) (e : ListEntry) (f : slice_get T.contents l ≡ Some e) where
+    head_on : (k : ℕ) (o : Operation) (rows : List Row) (ps : List Pending) → k ≡ 1 → k ≤ e.len → slice_get T.operations e.first ≡ Some o → step_at T (pend l 0 0) o ≡ step.Passed → Leads (at rows (pend l 0 0 ∷ ps)) (at (rows ++ []) (pend l k 0 ∷ ps))
     head_on k o rows ps n h g p =
-        same _ (at rows (pend l k 0 ∷ ps)) _ (ap (λ (r : List Row). at r (pend l k 0 ∷ ps)) (sym (append-nil rows))) (pass l 0 0 k rows ps n (step_found l e f 0 0 o (omega arith) (ap (nth T.operations) (add-zero e.first) ∙ g) ∙ p))
+        same _ (at rows (pend l k 0 ∷ ps)) _ (ap (λ (r : List Row). at r (pend l k 0 ∷ ps)) (sym (append-nil rows))) (pass l 0 0 k rows ps n (step_found l e f 0 0 o (omega arith) (ap (slice_get T.operations) (add-zero e.first) ∙ g) ∙ p))
 
     -- a follower with no body
-    plain_on : (t : Term) (j k : ℕ) (o : Operation) (rows : List Row) (ps : List Pending) → k ≡ suc j → k ≤ e.len → nth T.operations (e.first + j) ≡ Some o → step_at T (pend l j (last t)) o ≡ step.Passed →
+    plain_on : (t : Term) (j k : ℕ) (o : Operation) (rows : List Row) (ps : List Pending) → k ≡ suc j → k ≤ e.len → slice_get T.operations (e.first + j) ≡ Some o → step_at T (pend l j (last t)) o ≡ step.Passed →
         To t l j rows ps → Leads (at rows (pend l 0 0 ∷ ps)) (at (rows ++ body_rows t) (pend l k (last t) ∷ ps))
     plain_on t j k o rows ps n h g p a =
         on _ (at (rows ++ body_rows t) (pend l j (last t) ∷ ps)) _ a (pass l j (last t) k (rows ++ body_rows t) ps n (step_found l e f j (last t) o (omega arith) g ∙ p))
 
     -- a follower with a body
-    follower_on : (t b : Term) (j k n : ℕ) (o : Operation) (rows : List Row) (ps : List Pending) → k ≡ suc j → k ≤ e.len → nth T.operations (e.first + j) ≡ Some o → step_at T (pend l j (last t)) o ≡ step.Body n →
+    follower_on : (t b : Term) (j k n : ℕ) (o : Operation) (rows : List Row) (ps : List Pending) → k ≡ suc j → k ≤ e.len → slice_get T.operations (e.first + j) ≡ Some o → step_at T (pend l j (last t)) o ≡ step.Body n →
         Named T l n (λ e. Spine T n e.first e.len b) → length rows + length (body_rows t ++ rows_of b) ≤ m.of_rows → length ps + suc (nesting b) < m.of_lists → Lists b n → To t l j rows ps →
         Leads (at rows (pend l 0 0 ∷ ps)) (at (rows ++ (body_rows t ++ rows_of b)) (pend l k (last t) ∷ ps))
     follower_on t b j k n o rows ps q h g p nd r free ih a =
@@ -127,8 +127,8 @@ module _ (T : Text) (m : Room) where
         x.1))
 
     -- at the head of an object
-    object_step : (a n i : ℕ) → 0 < e.len → nth T.operations e.first ≡ Some (op.Object a n) → (d : Step) → cond (ltb i n) (method_step l (nth T.methods (a + i))) step.Passed ≡ d → step_of T (pend l 0 i) ≡ d
-    object_step a n i z g d p = step_found l e f 0 i (op.Object a n) z (ap (nth T.operations) (add-zero e.first) ∙ g) ∙ p
+    object_step : (a n i : ℕ) → 0 < e.len → slice_get T.operations e.first ≡ Some (op.Object a n) → (d : Step) → cond (ltb i n) (method_step l (slice_get T.methods (a + i))) step.Passed ≡ d → step_of T (pend l 0 i) ≡ d
+    object_step a n i z g d p = step_found l e f 0 i (op.Object a n) z (ap (slice_get T.operations) (add-zero e.first) ∙ g) ∙ p
 
     method_on : (i n x : ℕ) (b : Term) (rows : List Row) (ps : List Pending) → step_of T (pend l 0 i) ≡ step.Method x n → Named T l n (λ e. Spine T n e.first e.len b) →
         length rows + suc (length (rows_of b)) ≤ m.of_rows → length ps + suc (nesting b) < m.of_lists → Lists b n →
@@ -144,14 +144,14 @@ module _ (T : Text) (m : Room) where
         y.1
 
   mutual
-    lists_on : (t : Term) (l : ℕ) (e : ListEntry) (k : ℕ) (rows : List Row) (ps : List Pending) → nth T.contents l ≡ Some e → Spine T l e.first k t → k ≤ e.len →
+    lists_on : (t : Term) (l : ℕ) (e : ListEntry) (k : ℕ) (rows : List Row) (ps : List Pending) → slice_get T.contents l ≡ Some e → Spine T l e.first k t → k ≤ e.len →
         length rows + length (body_rows t) ≤ m.of_rows → length ps + nesting t < m.of_lists → To t l k rows ps
     lists_on (var i) l e k rows ps f s h r q = head_on l e f k (op.Access i) rows ps s.0 h s.1 refl
     lists_on (val (Figure v)) l e k rows ps f s h r q = head_on l e f k (op.Figure v) rows ps s.0 h s.1 refl
     lists_on (val (Location n)) l e k rows ps f s h r q = head_on l e f k (op.Figure (pos 0)) rows ps s.0 h s.1 refl
     lists_on (object ms) l e k rows ps f s h r q =
         let z : 0 < e.len = omega (arith, s.1) in
-        let none_left : cond (ltb (many ms) (many ms)) (method_step l (nth T.methods (s.0 + many ms))) step.Passed ≡ step.Passed = cond-false _ _ _ (le-ltb (many ms) (many ms) (omega arith)) in
+        let none_left : cond (ltb (many ms) (many ms)) (method_step l (slice_get T.methods (s.0 + many ms))) step.Passed ≡ step.Passed = cond-false _ _ _ (le-ltb (many ms) (many ms) (omega arith)) in
         on _ (at (rows ++ method_rows ms) (pend l 0 (many ms) ∷ ps)) _
         (methods_on ms l e s.0 (many ms) 0 rows ps f z s.2 (omega arith) (subst (λ (x : ℕ). Entries T l x ms) (sym (add-zero s.0)) s.4) r q)
         (pass l 0 (many ms) k (rows ++ method_rows ms) ps s.1 (object_step l e f s.0 (many ms) (many ms) z s.2 step.Passed none_left))
@@ -166,7 +166,7 @@ module _ (T : Text) (m : Room) where
         follower_on l e f t b s.0 k s.1 (op.Let s.1) rows ps s.2 h s.3 refl s.4 r (omega arith) (λ e₁ rows₁ ps₁ f₁ s₁ r₁ q₁. lists_on b s.1 e₁ e₁.len rows₁ ps₁ f₁ s₁ (omega arith) r₁ q₁)
         (lists_on t l e s.0 rows ps f s.5 (omega (arith, s.2)) (omega arith) (omega arith))
 
-    methods_on : (ms : Methods) (l : ℕ) (e : ListEntry) (a n i : ℕ) (rows : List Row) (ps : List Pending) → nth T.contents l ≡ Some e → 0 < e.len → nth T.operations e.first ≡ Some (op.Object a n) → i + many ms ≡ n → Entries T l (a + i) ms →
+    methods_on : (ms : Methods) (l : ℕ) (e : ListEntry) (a n i : ℕ) (rows : List Row) (ps : List Pending) → slice_get T.contents l ≡ Some e → 0 < e.len → slice_get T.operations e.first ≡ Some (op.Object a n) → i + many ms ≡ n → Entries T l (a + i) ms →
         length rows + length (method_rows ms) ≤ m.of_rows → length ps + nesting_all ms < m.of_lists →
         Leads (at rows (pend l 0 i ∷ ps)) (at (rows ++ method_rows ms) (pend l 0 n ∷ ps))
     methods_on nil l e a n i rows ps f z g c s r q =
@@ -177,7 +177,7 @@ module _ (T : Text) (m : Room) where
         let t₁ = length-append (rows_of b) (method_rows ms) in
         let t₂ = length-append rows (method_row x ∷ []) in
         let t₃ = length-append more (rows_of b) in
-        let here : cond (ltb i n) (method_step l (nth T.methods (a + i))) step.Passed ≡ step.Method x s.0 =
+        let here : cond (ltb i n) (method_step l (slice_get T.methods (a + i))) step.Passed ≡ step.Method x s.0 =
         cond-true _ _ _ (lt-ltb i n (omega arith)) ∙ ap (method_step l) s.1 ∙ cond-true _ _ _ (lt-ltb l s.0 s.2.above) in
         let ix : suc (a + i) ≡ a + (i + 1) = omega arith in
         let shape : (more ++ rows_of b) ++ method_rows ms ≡ rows ++ method_rows (method x b ms) = append_assoc more (rows_of b) (method_rows ms) ∙ append_assoc rows (method_row x ∷ []) (rows_of b ++ method_rows ms) in
@@ -204,7 +204,7 @@ module _ (T : Text) (m : Room) where
   at_end rows zero r h = absurd (let z : ◌≡◌ {A = ℕ} 0 1 = cc in omega arith)
   at_end rows (suc j) r h = cc
 
-  whole_listed : (n : ℕ) (t : Term) (e : ListEntry) → nth T.contents n ≡ Some e → Spine T n e.first e.len t → length (rows_of t) ≤ m.of_rows → nesting t < m.of_lists → listed_whole T m n ≡ Some (Ok (rows_of t))
+  whole_listed : (n : ℕ) (t : Term) (e : ListEntry) → slice_get T.contents n ≡ Some e → Spine T n e.first e.len t → length (rows_of t) ≤ m.of_rows → nesting t < m.of_lists → listed_whole T m n ≡ Some (Ok (rows_of t))
   unfolding load
   whole_listed n t e f s h q =
       let c = ap length (rows_split t) in

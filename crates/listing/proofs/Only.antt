@@ -1,5 +1,5 @@
 -- What lists back stands for a term, and has that term's rows.
-use Rattle.std.proofs.Common.{◌≡◌, ℕ, zero, suc, ◌+◌, ◌-◌, ◌*◌, ◌<◌, ◌≤◌, Bool, true, false, cond, eqb, ltb, List, [], ◌∷◌, ◌++◌, length, Some, None, Ok, Err, Option, Result, sym, refl, ap, ◌∙◌, subst, add-zero, arith, ltb-false, ltb-true, eqb-true, leb-true}
+use Rattle.std.proofs.Common.{slice_get, ◌≡◌, ℕ, zero, suc, ◌+◌, ◌-◌, ◌*◌, ◌<◌, ◌≤◌, Bool, true, false, cond, eqb, ltb, List, [], ◌∷◌, ◌++◌, length, Some, None, Ok, Err, Option, Result, sym, refl, ap, ◌∙◌, subst, add-zero, arith, ltb-false, ltb-true, eqb-true, leb-true}
 use borrow.Author.Tests.{eqb-false}
 use Rattle.std.proofs.lemmas.List.{append_assoc, append-nil}
 use Rattle.std.proofs.lemmas.Bool.{and_parts}
@@ -11,7 +11,7 @@ use Rattle.calculus.specs.declared.rows.Row.{Row}
 use Rattle.calculus.specs.declared.refusals.Refusal.{Refusal}
 use Rattle.calculus.specs.declared.refusals.Refusal.TheVariants.{NoProgram, Astray, StackFull, RowsShort}
 use Rattle.calculus.specs.declared.values.Value.TheVariants.{Figure, Location}
-use Rattle.calculus.specs.Places.{nth, if_some}
+use Rattle.calculus.specs.Places.{if_some}
 use Rattle.calculus.specs.Terms.{Term, var, val, object, select, update, clone, bind, Methods, nil, method}
 use Rattle.calculus.specs.Rows.{many, rows_of, method_rows}
 use Rattle.calculus.specs.Trees.{Rest, done, select_op, update_op, clone_op, let_op, trans, trans_all}
@@ -58,23 +58,23 @@ module _ (T : Text) where
 
 -- each operation of a list may stand where it does
 abbrev Own : Text → ℕ → ListEntry → Type 0
-Own T l e = (q : ℕ) → q < e.len → (o : Operation) × (nth T.operations (e.first + q) ≡ Some o) × (proper T l q o ≡ true)
+Own T l e = (q : ℕ) → q < e.len → (o : Operation) × (slice_get T.operations (e.first + q) ≡ Some o) × (proper T l q o ≡ true)
 
 module _ (T : Text) (room l : ℕ) (e : ListEntry) where
-  row_ok : (q : ℕ) (r : Row) → row_at T l e q ≡ Ok r → (o : Operation) × (nth T.operations (e.first + q) ≡ Some o) × (proper T l q o ≡ true)
-  row_ok q r h = go (nth T.operations (e.first + q)) refl h
+  row_ok : (q : ℕ) (r : Row) → row_at T l e q ≡ Ok r → (o : Operation) × (slice_get T.operations (e.first + q) ≡ Some o) × (proper T l q o ≡ true)
+  row_ok q r h = go (slice_get T.operations (e.first + q)) refl h
     where
       at_op : (o : Operation) (b : Bool) → proper T l q o ≡ b → cond b (Ok (row_of o)) (Err (Astray l q)) ≡ Ok r → b ≡ true
       at_op o true p k = refl
       at_op o false p k = absurd (let z : ◌≡◌ {A = ℕ} 0 1 = cc in omega arith)
 
-      go : (x : Option Operation) → nth T.operations (e.first + q) ≡ x → if_some x (λ o. cond (proper T l q o) (Ok (row_of o)) (Err (Astray l q))) (Err (Astray l q)) ≡ Ok r →
-          (o : Operation) × (nth T.operations (e.first + q) ≡ Some o) × (proper T l q o ≡ true)
+      go : (x : Option Operation) → slice_get T.operations (e.first + q) ≡ x → if_some x (λ o. cond (proper T l q o) (Ok (row_of o)) (Err (Astray l q))) (Err (Astray l q)) ≡ Ok r →
+          (o : Operation) × (slice_get T.operations (e.first + q) ≡ Some o) × (proper T l q o ≡ true)
       go (Some o) f k = (o, f, at_op o (proper T l q o) refl k)
       go None f k = absurd (let z : ◌≡◌ {A = ℕ} 0 1 = cc in omega arith)
 
   abbrev Place : ℕ → Type 0
-  Place q = (o : Operation) × (nth T.operations (e.first + q) ≡ Some o) × (proper T l q o ≡ true)
+  Place q = (o : Operation) × (slice_get T.operations (e.first + q) ≡ Some o) × (proper T l q o ≡ true)
 
   written_own : (k : ℕ) (rows more : List Row) → written T room l e k rows ≡ Ok more → (q : ℕ) → q < k → Place q
   unfolding written
@@ -96,7 +96,7 @@ module _ (T : Text) (room l : ℕ) (e : ListEntry) where
 -- what is known of a list that was begun
 pub record Opened (T : Text) (m : Room) (n : ℕ) (rows : List Row) (ps : List Pending) (s : State) : Type 0 where
   pub entry : ListEntry
-  pub found : nth T.contents n ≡ Some entry
+  pub found : slice_get T.contents n ≡ Some entry
   pub some : 0 < entry.len
   pub more : List Row
   pub wrote : written T m.of_rows n entry entry.len rows ≡ Ok more
@@ -106,11 +106,11 @@ module _ (T : Text) (m : Room) (n : ℕ) (rows : List Row) (ps : List Pending) (
   opened : begun T m n rows ps ≡ Ok s → Opened T m n rows ps s
   opened h = at_stack (ltb (length ps) m.of_lists) h
     where
-      at_written : (e : ListEntry) → nth T.contents n ≡ Some e → 0 < e.len → (w : Result (List Row) Refusal) → written T m.of_rows n e e.len rows ≡ w → pushed w (fresh n) ps ≡ Ok s → Opened T m n rows ps s
+      at_written : (e : ListEntry) → slice_get T.contents n ≡ Some e → 0 < e.len → (w : Result (List Row) Refusal) → written T m.of_rows n e e.len rows ≡ w → pushed w (fresh n) ps ≡ Ok s → Opened T m n rows ps s
       at_written e f z (Ok rs) w g = record { entry = e; found = f; some = z; more = rs; wrote = w; is = cc }
       at_written e f z (Err y) w g = absurd (let z : ◌≡◌ {A = ℕ} 0 1 = cc in omega arith)
 
-      at_entry : (e : ListEntry) → nth T.contents n ≡ Some e → (b : Bool) → eqb e.len 0 ≡ b → cond b (Err (Astray n 0)) (pushed (written T m.of_rows n e e.len rows) (fresh n) ps) ≡ Ok s → Opened T m n rows ps s
+      at_entry : (e : ListEntry) → slice_get T.contents n ≡ Some e → (b : Bool) → eqb e.len 0 ≡ b → cond b (Err (Astray n 0)) (pushed (written T m.of_rows n e e.len rows) (fresh n) ps) ≡ Ok s → Opened T m n rows ps s
       at_entry e f true z g = absurd (let z : ◌≡◌ {A = ℕ} 0 1 = cc in omega arith)
       at_entry e f false z g = at_written e f (some_of e.len (eqb-false _ _ z)) (written T m.of_rows n e e.len rows) refl g
         where
@@ -118,12 +118,12 @@ module _ (T : Text) (m : Room) (n : ℕ) (rows : List Row) (ps : List Pending) (
           some_of zero f = absurd (f refl)
           some_of (suc k) f = omega arith
 
-      at_contents : (x : Option ListEntry) → nth T.contents n ≡ x → if_some x (begun_from T m.of_rows n rows ps) (Err (Astray n 0)) ≡ Ok s → Opened T m n rows ps s
+      at_contents : (x : Option ListEntry) → slice_get T.contents n ≡ x → if_some x (begun_from T m.of_rows n rows ps) (Err (Astray n 0)) ≡ Ok s → Opened T m n rows ps s
       at_contents (Some e) f g = at_entry e f (eqb e.len 0) refl g
       at_contents None f g = absurd (let z : ◌≡◌ {A = ℕ} 0 1 = cc in omega arith)
 
-      at_stack : (b : Bool) → cond b (if_some (nth T.contents n) (begun_from T m.of_rows n rows ps) (Err (Astray n 0))) (Err (StackFull n)) ≡ Ok s → Opened T m n rows ps s
-      at_stack true g = at_contents (nth T.contents n) refl g
+      at_stack : (b : Bool) → cond b (if_some (slice_get T.contents n) (begun_from T m.of_rows n rows ps) (Err (Astray n 0))) (Err (StackFull n)) ≡ Ok s → Opened T m n rows ps s
+      at_stack true g = at_contents (slice_get T.contents n) refl g
       at_stack false g = absurd (let z : ◌≡◌ {A = ℕ} 0 1 = cc in omega arith)
 
 module _ (T : Text) (m : Room) (out : List Row) where
@@ -181,7 +181,7 @@ module _ (T : Text) (m : Room) (out : List Row) where
   -- each of these for walks of fewer than K turns
   abbrev RestAll : ℕ → Type 0
   RestAll K =
-      (k : ℕ) → k < K → (l : ℕ) (e : ListEntry) → nth T.contents l ≡ Some e → Own T l e → (j i : ℕ) (t : Term) → Spine T l e.first j t → 0 < j → j ≤ e.len →
+      (k : ℕ) → k < K → (l : ℕ) (e : ListEntry) → slice_get T.contents l ≡ Some e → Own T l e → (j i : ℕ) (t : Term) → Spine T l e.first j t → 0 < j → j ≤ e.len →
       (rows : List Row) (ps : List Pending) → length rows ≤ m.of_rows → Runs k rows (pend l j i ∷ ps) → Rested l e t k rows ps
 
   abbrev ListAll : ℕ → Type 0
@@ -190,10 +190,10 @@ module _ (T : Text) (m : Room) (out : List Row) where
 
   abbrev MethodAll : ℕ → Type 0
   MethodAll K =
-      (k : ℕ) → k < K → (l : ℕ) (e : ListEntry) → nth T.contents l ≡ Some e → 0 < e.len → (a c i : ℕ) → nth T.operations e.first ≡ Some (op.Object a c) → i ≤ c →
+      (k : ℕ) → k < K → (l : ℕ) (e : ListEntry) → slice_get T.contents l ≡ Some e → 0 < e.len → (a c i : ℕ) → slice_get T.operations e.first ≡ Some (op.Object a c) → i ≤ c →
       (rows : List Row) (ps : List Pending) → length rows ≤ m.of_rows → Runs k rows (pend l 0 i ∷ ps) → NamedAll l a c i k rows ps
 
-  module _ (K : ℕ) (rests : RestAll K) (whole-lists : ListAll K) (l : ℕ) (e : ListEntry) (f : nth T.contents l ≡ Some e) (own : Own T l e) (j i : ℕ) (t : Term) (sp : Spine T l e.first j t)
+  module _ (K : ℕ) (rests : RestAll K) (whole-lists : ListAll K) (l : ℕ) (e : ListEntry) (f : slice_get T.contents l ≡ Some e) (own : Own T l e) (j i : ℕ) (t : Term) (sp : Spine T l e.first j t)
       (z : 0 < j) (h : j < e.len) (rows : List Row) (ps : List Pending) (w : length rows ≤ m.of_rows) (k left : ℕ) (lt : k < suc K) (kk : k ≡ suc left) where
     -- a follower with no body
     passes_on : (u : Term) → body_rows u ≡ body_rows t → Spine T l e.first (j + 1) u → (s : State) → ◌≡◌ {A = Result State Refusal} (Ok (at rows (pend l (j + 1) i ∷ ps))) (Ok s) → walked left T m s ≡ Some (Ok out) → Rested l e t k rows ps
@@ -221,7 +221,7 @@ module _ (T : Text) (m : Room) (out : List Row) where
           goes = subst (λ (y : List Row). Runs r.turns y ps) a r.goes;
         }
 
-    at_follower : (o : Operation) → nth T.operations (e.first + j) ≡ Some o → proper T l j o ≡ true → (s : State) → carried T m rows (pend l j i) ps (step_at T (pend l j i) o) ≡ Ok s → walked left T m s ≡ Some (Ok out) → Rested l e t k rows ps
+    at_follower : (o : Operation) → slice_get T.operations (e.first + j) ≡ Some o → proper T l j o ≡ true → (s : State) → carried T m rows (pend l j i) ps (step_at T (pend l j i) o) ≡ Ok s → walked left T m s ≡ Some (Ok out) → Rested l e t k rows ps
     at_follower (op.Access x) n p s c g = absurd (omega (arith, eqb-true j 0 p))
     at_follower (op.Figure x) n p s c g = absurd (omega (arith, eqb-true j 0 p))
     at_follower (op.Object a b) n p s c g = absurd (omega (arith, eqb-true j 0 (and_parts (eqb j 0) _ p).0))
@@ -259,9 +259,9 @@ module _ (T : Text) (m : Room) (out : List Row) where
             goes = subst (λ (y : List Row). Runs tn.left y ps) (sym a) (ap (walked tn.left T m) q ∙ tn.goes);
           }
 
-  module _ (K : ℕ) (whole-lists : ListAll K) (methods : MethodAll K) (l : ℕ) (e : ListEntry) (f : nth T.contents l ≡ Some e) (z : 0 < e.len) (a c i : ℕ) (head : nth T.operations e.first ≡ Some (op.Object a c))
+  module _ (K : ℕ) (whole-lists : ListAll K) (methods : MethodAll K) (l : ℕ) (e : ListEntry) (f : slice_get T.contents l ≡ Some e) (z : 0 < e.len) (a c i : ℕ) (head : slice_get T.operations e.first ≡ Some (op.Object a c))
       (h : i < c) (rows : List Row) (ps : List Pending) (w : length rows ≤ m.of_rows) (k left : ℕ) (lt : k < suc K) (kk : k ≡ suc left) (s : State) (g : walked left T m s ≡ Some (Ok out)) where
-    at_begun : (x n : ℕ) → nth T.methods (a + i) ≡ Some (record { label = x; list = n }) → l < n → (more : List Row) → put m.of_rows rows (method_row x) ≡ Ok more → begun T m n more (pend l 0 (i + 1) ∷ ps) ≡ Ok s → NamedAll l a c i k rows ps
+    at_begun : (x n : ℕ) → slice_get T.methods (a + i) ≡ Some (record { label = x; list = n }) → l < n → (more : List Row) → put m.of_rows rows (method_row x) ≡ Ok more → begun T m n more (pend l 0 (i + 1) ∷ ps) ≡ Ok s → NamedAll l a c i k rows ps
     at_begun x n me above more pt bg =
         let pl = put_longer m.of_rows rows (method_row x) more pt in
         let y = whole-lists left (omega arith) n more (pend l 0 (i + 1) ∷ ps) s pl.1 bg g in
@@ -286,16 +286,16 @@ module _ (T : Text) (m : Room) (out : List Row) where
         put_is true q = cc
         put_is false q = absurd (let z : ◌≡◌ {A = ℕ} 0 1 = cc in omega arith)
 
-    at_put : (x n : ℕ) → nth T.methods (a + i) ≡ Some (record { label = x; list = n }) → l < n → (v : Result (List Row) Refusal) → put m.of_rows rows (method_row x) ≡ v →
+    at_put : (x n : ℕ) → slice_get T.methods (a + i) ≡ Some (record { label = x; list = n }) → l < n → (v : Result (List Row) Refusal) → put m.of_rows rows (method_row x) ≡ v →
         then v (λ rs. begun T m n rs (pend l 0 (i + 1) ∷ ps)) ≡ Ok s → NamedAll l a c i k rows ps
     at_put x n me above (Ok more) pt q = at_begun x n me above more pt q
     at_put x n me above (Err y) pt q = absurd (let z : ◌≡◌ {A = ℕ} 0 1 = cc in omega arith)
 
-    at_above : (me : MethodEntry) → nth T.methods (a + i) ≡ Some me → (d : Bool) → ltb l me.list ≡ d → carried T m rows (pend l 0 i) ps (cond d (step.Method me.label me.list) step.Astray) ≡ Ok s → NamedAll l a c i k rows ps
+    at_above : (me : MethodEntry) → slice_get T.methods (a + i) ≡ Some me → (d : Bool) → ltb l me.list ≡ d → carried T m rows (pend l 0 i) ps (cond d (step.Method me.label me.list) step.Astray) ≡ Ok s → NamedAll l a c i k rows ps
     at_above me n true d q = at_put me.label me.list n (ltb-true l me.list d) (put m.of_rows rows (method_row me.label)) refl q
     at_above me n false d q = absurd (let z : ◌≡◌ {A = ℕ} 0 1 = cc in omega arith)
 
-    at_entry : (v : Option MethodEntry) → nth T.methods (a + i) ≡ v → carried T m rows (pend l 0 i) ps (method_step l v) ≡ Ok s → NamedAll l a c i k rows ps
+    at_entry : (v : Option MethodEntry) → slice_get T.methods (a + i) ≡ v → carried T m rows (pend l 0 i) ps (method_step l v) ≡ Ok s → NamedAll l a c i k rows ps
     at_entry (Some me) n q = at_above me n (ltb l me.list) refl q
     at_entry None n q = absurd (let z : ◌≡◌ {A = ℕ} 0 1 = cc in omega arith)
 
@@ -305,13 +305,13 @@ module _ (T : Text) (m : Room) (out : List Row) where
       tn : Turn k rows (pend l 0 i) ps
       tn = turn k rows (pend l 0 i) ps r
 
-      now_is : (d : Bool) → ltb i c ≡ d → carried T m rows (pend l 0 i) ps (cond d (method_step l (nth T.methods (a + i))) step.Passed) ≡ Ok tn.state
+      now_is : (d : Bool) → ltb i c ≡ d → carried T m rows (pend l 0 i) ps (cond d (method_step l (slice_get T.methods (a + i))) step.Passed) ≡ Ok tn.state
       now_is d q =
-          ap (λ (b : Bool). carried T m rows (pend l 0 i) ps (cond b (method_step l (nth T.methods (a + i))) step.Passed)) (sym q)
-          ∙ sym (ap (carried T m rows (pend l 0 i) ps) (step_found T m l e f 0 i (op.Object a c) z (ap (nth T.operations) (add-zero e.first) ∙ head))) ∙ tn.carries
+          ap (λ (b : Bool). carried T m rows (pend l 0 i) ps (cond b (method_step l (slice_get T.methods (a + i))) step.Passed)) (sym q)
+          ∙ sym (ap (carried T m rows (pend l 0 i) ps) (step_found T m l e f 0 i (op.Object a c) z (ap (slice_get T.operations) (add-zero e.first) ∙ head))) ∙ tn.carries
 
       go : (d : Bool) → ltb i c ≡ d → NamedAll l a c i k rows ps
-      go true d = at_entry K whole-lists methods l e f z a c i head (ltb-true i c d) rows ps w k tn.left lt tn.fewer tn.state tn.goes (nth T.methods (a + i)) refl (now_is true d)
+      go true d = at_entry K whole-lists methods l e f z a c i head (ltb-true i c d) rows ps w k tn.left lt tn.fewer tn.state tn.goes (slice_get T.methods (a + i)) refl (now_is true d)
       go false d =
           let n = ltb-false i c d in
           let q : i ≡ c = omega arith in
@@ -329,7 +329,7 @@ module _ (T : Text) (m : Room) (out : List Row) where
           }
 
   module _ (K : ℕ) (rests : RestAll K) (methods : MethodAll (suc K)) (n : ℕ) (rows : List Row) (ps : List Pending) (w : length rows ≤ m.of_rows) (k : ℕ) (lt : k < suc K)
-      (e : ListEntry) (f : nth T.contents n ≡ Some e) (z : 0 < e.len) (own : Own T n e) (more : List Row) (wr : written T m.of_rows n e e.len rows ≡ Ok more) where
+      (e : ListEntry) (f : slice_get T.contents n ≡ Some e) (z : 0 < e.len) (own : Own T n e) (more : List Row) (wr : written T m.of_rows n e e.len rows ≡ Ok more) where
     wrote : length more ≤ m.of_rows
     wrote = (written_longer T m.of_rows n e e.len rows more wr).within w
 
@@ -355,7 +355,7 @@ module _ (T : Text) (m : Room) (out : List Row) where
         }
 
     -- a head with no bodies
-    passes_head : (t : Term) → body_rows t ≡ [] → (o : Operation) → nth T.operations (e.first + 0) ≡ Some o → step_at T (pend n 0 0) o ≡ step.Passed → Spine T n e.first 1 t → Runs k more (fresh n ∷ ps) → Whole n k rows ps
+    passes_head : (t : Term) → body_rows t ≡ [] → (o : Operation) → slice_get T.operations (e.first + 0) ≡ Some o → step_at T (pend n 0 0) o ≡ step.Passed → Spine T n e.first 1 t → Runs k more (fresh n ∷ ps) → Whole n k rows ps
     passes_head t none o is-o st sp r =
         let tn = turn k more (fresh n) ps r in
         let c : ◌≡◌ {A = Result State Refusal} (Ok (at more (pend n 1 0 ∷ ps))) (Ok tn.state) =
@@ -364,11 +364,11 @@ module _ (T : Text) (m : Room) (out : List Row) where
         let a : more ≡ more ++ body_rows t = sym (ap (λ (y : List Row). more ++ y) none ∙ append-nil more) in
         ends t 0 tn.left (omega (arith, tn.fewer)) sp (subst (λ (y : List Row). length y ≤ m.of_rows) a wrote) (subst (λ (y : List Row). Runs tn.left y (pend n 1 0 ∷ ps)) a (ap (walked tn.left T m) q ∙ tn.goes))
 
-    at_head_of : (o : Operation) → nth T.operations (e.first + 0) ≡ Some o → proper T n 0 o ≡ true → Runs k more (fresh n ∷ ps) → Whole n k rows ps
-    at_head_of (op.Access i) is-o p r = passes_head (var i) refl (op.Access i) is-o refl (refl, sym (ap (nth T.operations) (add-zero e.first)) ∙ is-o) r
-    at_head_of (op.Figure v) is-o p r = passes_head (val (Figure v)) refl (op.Figure v) is-o refl (refl, sym (ap (nth T.operations) (add-zero e.first)) ∙ is-o) r
+    at_head_of : (o : Operation) → slice_get T.operations (e.first + 0) ≡ Some o → proper T n 0 o ≡ true → Runs k more (fresh n ∷ ps) → Whole n k rows ps
+    at_head_of (op.Access i) is-o p r = passes_head (var i) refl (op.Access i) is-o refl (refl, sym (ap (slice_get T.operations) (add-zero e.first)) ∙ is-o) r
+    at_head_of (op.Figure v) is-o p r = passes_head (val (Figure v)) refl (op.Figure v) is-o refl (refl, sym (ap (slice_get T.operations) (add-zero e.first)) ∙ is-o) r
     at_head_of (op.Object a c) is-o p r =
-        let head = sym (ap (nth T.operations) (add-zero e.first)) ∙ is-o in
+        let head = sym (ap (slice_get T.operations) (add-zero e.first)) ∙ is-o in
         let x = methods k lt n e f z a c 0 head (omega arith) more ps wrote r in
         let ms = x.methods in
         let mc : c ≡ many ms = omega (arith, x.count) in
@@ -396,9 +396,9 @@ module _ (T : Text) (m : Room) (out : List Row) where
       (rest_step K ih.0 ih.1, list_step K ih.0 ms, ms)
 
 pub lists_only : ListsOnly
-lists_only T m n rows h = at_contents (nth T.contents n) refl h
+lists_only T m n rows h = at_contents (slice_get T.contents n) refl h
   where
-    at_begun : (e : ListEntry) → nth T.contents n ≡ Some e → 0 < e.mark → (b : Result State Refusal) → begun T m n [] [] ≡ b → going b (walked (2 * m.of_rows + 1) T m) ≡ Some (Ok rows) →
+    at_begun : (e : ListEntry) → slice_get T.contents n ≡ Some e → 0 < e.mark → (b : Result State Refusal) → begun T m n [] [] ≡ b → going b (walked (2 * m.of_rows + 1) T m) ≡ Some (Ok rows) →
         (t : Term) × (g : ℕ) × Program T n g (trans t done) × (rows ≡ rows_of t)
     at_begun e f mk (Ok s) bg k =
         let w = (every T m rows (suc (2 * m.of_rows + 1))).1 (2 * m.of_rows + 1) (omega arith) n [] [] s (omega arith) bg k in
@@ -413,7 +413,7 @@ lists_only T m n rows h = at_contents (nth T.contents n) refl h
         some_is x y q = cc
     at_begun e f mk (Err y) bg k = absurd (let z : ◌≡◌ {A = ℕ} 0 1 = cc in omega arith)
 
-    at_mark : (e : ListEntry) → nth T.contents n ≡ Some e → (b : Bool) → eqb e.mark 0 ≡ b → cond b (Some (Err NoProgram)) (listed_whole T m n) ≡ Some (Ok rows) → (t : Term) × (g : ℕ) × Program T n g (trans t done) × (rows ≡ rows_of t)
+    at_mark : (e : ListEntry) → slice_get T.contents n ≡ Some e → (b : Bool) → eqb e.mark 0 ≡ b → cond b (Some (Err NoProgram)) (listed_whole T m n) ≡ Some (Ok rows) → (t : Term) × (g : ℕ) × Program T n g (trans t done) × (rows ≡ rows_of t)
     at_mark e f true b k = absurd (let z : ◌≡◌ {A = ℕ} 0 1 = cc in omega arith)
     at_mark e f false b k = at_begun e f (some_of e.mark (eqb-false _ _ b)) (begun T m n [] []) refl k
       where
@@ -421,7 +421,7 @@ lists_only T m n rows h = at_contents (nth T.contents n) refl h
         some_of zero q = absurd (q refl)
         some_of (suc x) q = omega arith
 
-    at_contents : (x : Option ListEntry) → nth T.contents n ≡ x → if_some x (λ e. cond (eqb e.mark 0) (Some (Err NoProgram)) (listed_whole T m n)) (Some (Err NoProgram)) ≡ Some (Ok rows) →
+    at_contents : (x : Option ListEntry) → slice_get T.contents n ≡ x → if_some x (λ e. cond (eqb e.mark 0) (Some (Err NoProgram)) (listed_whole T m n)) (Some (Err NoProgram)) ≡ Some (Ok rows) →
         (t : Term) × (g : ℕ) × Program T n g (trans t done) × (rows ≡ rows_of t)
     at_contents (Some e) f k = at_mark e f (eqb e.mark 0) refl k
     at_contents None f k = absurd (let z : ◌≡◌ {A = ℕ} 0 1 = cc in omega arith)

@@ -1,5 +1,5 @@
 -- A list that stands for a term, read from its last operation, and its own rows.
-use Rattle.std.proofs.Common.{◌≡◌, ℕ, suc, ◌+◌, ◌<◌, ◌≤◌, true, false, cond, ◌&&◌, eqb, ltb, List, [], ◌∷◌, ◌++◌, length, pos, Some, Ok, Err, sym, refl, ap, ◌∙◌, subst, add-zero, arith, lt-ltb, ne_eqb, le-leb}
+use Rattle.std.proofs.Common.{slice_get, ◌≡◌, ℕ, suc, ◌+◌, ◌<◌, ◌≤◌, true, false, cond, ◌&&◌, eqb, ltb, List, [], ◌∷◌, ◌++◌, length, pos, Some, Ok, Err, sym, refl, ap, ◌∙◌, subst, add-zero, arith, lt-ltb, ne_eqb, le-leb}
 use Rattle.std.proofs.lemmas.List.{length-append, append_assoc}
 use Rattle.std.proofs.lemmas.Bool.{and_from, cond-true, cond-false}
 use Rattle.calculus.specs.declared.code.Operation.{Operation}
@@ -8,7 +8,7 @@ use Rattle.calculus.specs.declared.code.ListEntry.{ListEntry}
 use Rattle.calculus.specs.declared.rows.Row.{Row}
 use Rattle.calculus.specs.declared.refusals.Refusal.TheVariants.{Astray}
 use Rattle.calculus.specs.declared.values.Value.TheVariants.{Figure, Location}
-use Rattle.calculus.specs.Places.{nth, if_some}
+use Rattle.calculus.specs.Places.{if_some}
 use Rattle.calculus.specs.Terms.{Term, var, val, object, select, update, clone, bind, Methods, nil, method}
 use Rattle.calculus.specs.Rows.{many, row, rows_of, method_rows}
 use Rattle.calculus.specs.Trees.{Rest, done, select_op, update_op, clone_op, let_op, trans, trans_all}
@@ -21,22 +21,22 @@ use Rattle.listing.specs.Listing.{State, Room, then, put, written, pushed, fresh
 abbrev mutual
   -- the first k operations of list l, which begins at place f, are those of a term
   pub Spine : Text → ℕ → ℕ → ℕ → Term → Type 0
-  Spine T l f k (var i) = (k ≡ 1) × (nth T.operations f ≡ Some (op.Access i))
-  Spine T l f k (val (Figure v)) = (k ≡ 1) × (nth T.operations f ≡ Some (op.Figure v))
-  Spine T l f k (val (Location n)) = (k ≡ 1) × (nth T.operations f ≡ Some (op.Figure (pos 0)))
-  Spine T l f k (object ms) = (a : ℕ) × (k ≡ 1) × (nth T.operations f ≡ Some (op.Object a (many ms))) × (a + many ms ≤ length T.methods) × Entries T l a ms
-  Spine T l f k (select t x) = (j : ℕ) × (k ≡ suc j) × (nth T.operations (f + j) ≡ Some (op.Select x)) × Spine T l f j t
+  Spine T l f k (var i) = (k ≡ 1) × (slice_get T.operations f ≡ Some (op.Access i))
+  Spine T l f k (val (Figure v)) = (k ≡ 1) × (slice_get T.operations f ≡ Some (op.Figure v))
+  Spine T l f k (val (Location n)) = (k ≡ 1) × (slice_get T.operations f ≡ Some (op.Figure (pos 0)))
+  Spine T l f k (object ms) = (a : ℕ) × (k ≡ 1) × (slice_get T.operations f ≡ Some (op.Object a (many ms))) × (a + many ms ≤ length T.methods) × Entries T l a ms
+  Spine T l f k (select t x) = (j : ℕ) × (k ≡ suc j) × (slice_get T.operations (f + j) ≡ Some (op.Select x)) × Spine T l f j t
   Spine T l f k (update t x b) =
-      (j : ℕ) × (n : ℕ) × (k ≡ suc j) × (nth T.operations (f + j) ≡ Some (op.Update x n)) × Named T l n (λ e. Spine T n e.first e.len b) × Spine T l f j t
-  Spine T l f k (clone t) = (j : ℕ) × (k ≡ suc j) × (nth T.operations (f + j) ≡ Some op.Clone) × Spine T l f j t
+      (j : ℕ) × (n : ℕ) × (k ≡ suc j) × (slice_get T.operations (f + j) ≡ Some (op.Update x n)) × Named T l n (λ e. Spine T n e.first e.len b) × Spine T l f j t
+  Spine T l f k (clone t) = (j : ℕ) × (k ≡ suc j) × (slice_get T.operations (f + j) ≡ Some op.Clone) × Spine T l f j t
   Spine T l f k (bind t b) =
-      (j : ℕ) × (n : ℕ) × (k ≡ suc j) × (nth T.operations (f + j) ≡ Some (op.Let n)) × Named T l n (λ e. Spine T n e.first e.len b) × Spine T l f j t
+      (j : ℕ) × (n : ℕ) × (k ≡ suc j) × (slice_get T.operations (f + j) ≡ Some (op.Let n)) × Named T l n (λ e. Spine T n e.first e.len b) × Spine T l f j t
 
   -- the method entries from place a on are those of an object in list l
   pub Entries : Text → ℕ → ℕ → Methods → Type 0
   Entries T l a nil = Unit {0}
   Entries T l a (method x b ms) =
-      (n : ℕ) × (nth T.methods a ≡ Some (record { label = x; list = n })) × Named T l n (λ e. Spine T n e.first e.len b) × Entries T l (suc a) ms
+      (n : ℕ) × (slice_get T.methods a ≡ Some (record { label = x; list = n })) × Named T l n (λ e. Spine T n e.first e.len b) × Entries T l (suc a) ms
 
 -- what stands for the tree of a term has its spine
 module _ (T : Text) where
@@ -139,11 +139,11 @@ own_some (clone a) = omega arith
 own_some (bind a b) = omega arith
 
 module _ (T : Text) (room l : ℕ) (e : ListEntry) where
-  row_is : (j : ℕ) (o : Operation) → nth T.operations (e.first + j) ≡ Some o → proper T l j o ≡ true → row_at T l e j ≡ Ok (row_of o)
+  row_is : (j : ℕ) (o : Operation) → slice_get T.operations (e.first + j) ≡ Some o → proper T l j o ≡ true → row_at T l e j ≡ Ok (row_of o)
   row_is j o p q = ap (λ x. if_some x (λ y. cond (proper T l j y) (Ok (row_of y)) (Err (Astray l j))) (Err (Astray l j))) p ∙ cond-true _ _ _ q
 
   -- one more row
-  one : (j k : ℕ) (rows : List Row) (o : Operation) → k ≡ suc j → nth T.operations (e.first + j) ≡ Some o → proper T l j o ≡ true → length rows < room → written T room l e k rows ≡ written T room l e j (rows ++ row_of o ∷ [])
+  one : (j k : ℕ) (rows : List Row) (o : Operation) → k ≡ suc j → slice_get T.operations (e.first + j) ≡ Some o → proper T l j o ≡ true → length rows < room → written T room l e k rows ≡ written T room l e j (rows ++ row_of o ∷ [])
   unfolding written
   one j k rows o n p q h =
       ap (λ i. written T room l e i rows) n ∙ ap (λ x. then x (λ r. then (put room rows r) (written T room l e j))) (row_is j o p q) ∙ ap (λ x. then x (written T room l e j)) (cond-true _ _ _ (lt-ltb (length rows) room h))
@@ -152,10 +152,10 @@ module _ (T : Text) (room l : ℕ) (e : ListEntry) where
   unfolding written
   none rows = refl
 
-  head : (k : ℕ) (rows : List Row) (o : Operation) → k ≡ 1 → nth T.operations e.first ≡ Some o → proper T l 0 o ≡ true → length rows + k ≤ room → written T room l e k rows ≡ Ok (rows ++ row_of o ∷ [])
-  head k rows o n p q h = one 0 k rows o n (ap (nth T.operations) (add-zero e.first) ∙ p) q (omega arith) ∙ none (rows ++ row_of o ∷ [])
+  head : (k : ℕ) (rows : List Row) (o : Operation) → k ≡ 1 → slice_get T.operations e.first ≡ Some o → proper T l 0 o ≡ true → length rows + k ≤ room → written T room l e k rows ≡ Ok (rows ++ row_of o ∷ [])
+  head k rows o n p q h = one 0 k rows o n (ap (slice_get T.operations) (add-zero e.first) ∙ p) q (omega arith) ∙ none (rows ++ row_of o ∷ [])
 
-  follower : (t : Term) (j k : ℕ) (rows : List Row) (o : Operation) → k ≡ suc j → nth T.operations (e.first + j) ≡ Some o → (0 < j → proper T l j o ≡ true) → Spine T l e.first j t → length rows + k ≤ room →
+  follower : (t : Term) (j k : ℕ) (rows : List Row) (o : Operation) → k ≡ suc j → slice_get T.operations (e.first + j) ≡ Some o → (0 < j → proper T l j o ≡ true) → Spine T l e.first j t → length rows + k ≤ room →
       ((more : List Row) → length more + j ≤ room → written T room l e j more ≡ Ok (more ++ own_rows t)) → written T room l e k rows ≡ Ok (rows ++ row_of o ∷ own_rows t)
   follower t j k rows o n p q s h ih =
       let a = length-append rows (row_of o ∷ []) in
@@ -179,7 +179,7 @@ abbrev pub at : List Row → List Pending → State
 at rows ps = record { rows = rows; pending = ps }
 
 -- a list that stands for a term is begun
-pub own_begun : (T : Text) (m : Room) (n : ℕ) (t : Term) (rows : List Row) (ps : List Pending) (e : ListEntry) → nth T.contents n ≡ Some e → Spine T n e.first e.len t → length ps < m.of_lists → length rows + length (own_rows t) ≤ m.of_rows → begun T m n rows ps ≡ Ok (at (rows ++ own_rows t) (fresh n ∷ ps))
+pub own_begun : (T : Text) (m : Room) (n : ℕ) (t : Term) (rows : List Row) (ps : List Pending) (e : ListEntry) → slice_get T.contents n ≡ Some e → Spine T n e.first e.len t → length ps < m.of_lists → length rows + length (own_rows t) ≤ m.of_rows → begun T m n rows ps ≡ Ok (at (rows ++ own_rows t) (fresh n ∷ ps))
 own_begun T m n t rows ps e f s free h =
     let k = spine_long T n e.first e.len t s in
     let z = own_some t in

@@ -1,12 +1,12 @@
 -- How many turns listing back can still take: each row left pays for two.
-use Rattle.std.specs.Prelude.{ℕ, ◌+◌, ◌-◌, ◌*◌, List, [], ◌∷◌, length}
-use Rattle.calculus.specs.Places.{nth, if_some}
+use Rattle.std.specs.Prelude.{slice_get, ℕ, ◌+◌, ◌-◌, ◌*◌, List, [], ◌∷◌, length}
+use Rattle.calculus.specs.Places.{if_some}
 use Rattle.calculus.specs.Text.{Text}
 use Rattle.listing.specs.declared.pending.Pending.{Pending}
 use Rattle.listing.specs.Listing.{State, Room}
 
 abbrev pub len_of : Text → ℕ → ℕ
-len_of T l = if_some (nth T.contents l) (λ e. e.len) 0
+len_of T l = if_some (slice_get T.contents l) (λ e. e.len) 0
 
 unfoldable pub load : Text → List Pending → ℕ
 load T [] = 0

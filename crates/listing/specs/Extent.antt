@@ -1,7 +1,7 @@
 -- Which lists are those of a program.
-use Rattle.std.specs.Prelude.{◌≡◌, ℕ, suc, ◌+◌, cond, List, [], ◌∷◌, length, drop, Some, None, Option, ◌==◌}
+use Rattle.std.specs.Prelude.{slice_get, ◌≡◌, ℕ, suc, ◌+◌, cond, List, [], ◌∷◌, length, drop, Some, None, Option, ◌==◌}
 use Rattle.calculus.specs.declared.code.ListEntry.{ListEntry}
-use Rattle.calculus.specs.Places.{nth, if_some}
+use Rattle.calculus.specs.Places.{if_some}
 use Rattle.calculus.specs.Terms.{Term}
 use Rattle.calculus.specs.Sizes.{term_sizes}
 use Rattle.calculus.specs.Text.{Text, joined}
@@ -14,7 +14,7 @@ run (e ∷ es) = cond (e.mark == 0) (suc (run es)) 0
 
 -- the number after the last list of a program
 abbrev pub end_of : Text → ℕ → Option ℕ
-end_of T n = if_some (nth T.contents n) (λ e. cond (e.mark == 0) None (Some (n + 1 + run (drop (n + 1) T.contents)))) None
+end_of T n = if_some (slice_get T.contents n) (λ e. cond (e.mark == 0) None (Some (n + 1 + run (drop (n + 1) T.contents)))) None
 
 -- a compiled program has as many lists as its term's sizes say, where no body comes after them
 abbrev pub Extent : Type 0

@@ -1,10 +1,10 @@
 -- Listing back, at all contents of the code area.
-use Rattle.std.specs.Prelude.{ℕ, zero, suc, ◌+◌, ◌*◌, cond, List, [], ◌∷◌, ◌++◌, length, Some, None, Ok, Err, Option, Result, ◌==◌, nat_lt}
+use Rattle.std.specs.Prelude.{slice_get, ℕ, zero, suc, ◌+◌, ◌*◌, cond, List, [], ◌∷◌, ◌++◌, length, Some, None, Ok, Err, Option, Result, ◌==◌, nat_lt}
 use Rattle.calculus.specs.declared.code.ListEntry.{ListEntry}
 use Rattle.calculus.specs.declared.rows.Row.{Row}
 use Rattle.calculus.specs.declared.refusals.Refusal.{Refusal}
 use Rattle.calculus.specs.declared.refusals.Refusal.TheVariants.{NoProgram, Astray, StackFull, RowsShort}
-use Rattle.calculus.specs.Places.{nth, if_some}
+use Rattle.calculus.specs.Places.{if_some}
 use Rattle.calculus.specs.Text.{Text}
 use Rattle.listing.specs.declared.pending.Pending.{Pending}
 use Rattle.listing.specs.declared.pending.Step.{Step}
@@ -47,7 +47,7 @@ begun_from T room l rows ps e = cond (e.len == 0) (Err (Astray l 0)) (pushed (wr
 abbrev pub begun : Text → Room → ℕ → List Row → List Pending → Result State Refusal
 begun T m l rows ps =
     cond (nat_lt (length ps) m.of_lists)
-    (if_some (nth T.contents l) (begun_from T m.of_rows l rows ps) (Err (Astray l 0)))
+    (if_some (slice_get T.contents l) (begun_from T m.of_rows l rows ps) (Err (Astray l 0)))
     (Err (StackFull l))
 
 abbrev pub passed : Pending → Pending
@@ -86,4 +86,4 @@ listed_whole T m n = going (begun T m n [] []) (walked (2 * m.of_rows + 1) T m)
 
 -- the rows of a program, or the first refusal
 abbrev pub listed : Text → Room → ℕ → Answer
-listed T m n = if_some (nth T.contents n) (λ e. cond (e.mark == 0) (Some (Err NoProgram)) (listed_whole T m n)) (Some (Err NoProgram))
+listed T m n = if_some (slice_get T.contents n) (λ e. cond (e.mark == 0) (Some (Err NoProgram)) (listed_whole T m n)) (Some (Err NoProgram))

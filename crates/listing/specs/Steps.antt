@@ -1,5 +1,5 @@
 -- What is read from the tables: the row of an operation, and what a pending list has next.
-use Rattle.std.specs.Prelude.{ℕ, ◌+◌, Bool, true, false, cond, ◌&&◌, length, pos, Some, None, Ok, Err, Option, Result, ◌==◌, nat_le, nat_lt}
+use Rattle.std.specs.Prelude.{slice_get, ℕ, ◌+◌, Bool, true, false, cond, ◌&&◌, length, pos, Some, None, Ok, Err, Option, Result, ◌==◌, nat_le, nat_lt}
 use Rattle.calculus.specs.declared.code.Operation.{Operation}
 use Rattle.calculus.specs.declared.code.Operation.TheVariants as op
 use Rattle.calculus.specs.declared.code.ListEntry.{ListEntry}
@@ -7,7 +7,7 @@ use Rattle.calculus.specs.declared.code.MethodEntry.{MethodEntry}
 use Rattle.calculus.specs.declared.rows.Row.{Row}
 use Rattle.calculus.specs.declared.refusals.Refusal.{Refusal}
 use Rattle.calculus.specs.declared.refusals.Refusal.TheVariants.{Astray}
-use Rattle.calculus.specs.Places.{nth, if_some}
+use Rattle.calculus.specs.Places.{if_some}
 use Rattle.calculus.specs.Rows.{row}
 use Rattle.calculus.specs.Text.{Text}
 use Rattle.listing.specs.declared.pending.Pending.{Pending}
@@ -39,7 +39,7 @@ proper T l k (op.Let b) = nat_lt 0 k && nat_lt l b
 
 -- the row of the operation at place k of list l, which has this entry
 abbrev pub row_at : Text → ℕ → ListEntry → ℕ → Result Row Refusal
-row_at T l e k = if_some (nth T.operations (e.first + k)) (λ o. cond (proper T l k o) (Ok (row_of o)) (Err (Astray l k))) (Err (Astray l k))
+row_at T l e k = if_some (slice_get T.operations (e.first + k)) (λ o. cond (proper T l k o) (Ok (row_of o)) (Err (Astray l k))) (Err (Astray l k))
 
 abbrev pub method_step : ℕ → Option MethodEntry → Step
 method_step l (Some m) = cond (nat_lt l m.list) (step.Method m.label m.list) step.Astray
@@ -49,17 +49,17 @@ method_step l None = step.Astray
 abbrev pub step_at : Text → Pending → Operation → Step
 step_at T p (op.Access i) = step.Passed
 step_at T p (op.Figure v) = step.Passed
-step_at T p (op.Object f n) = cond (nat_lt p.method n) (method_step p.list (nth T.methods (f + p.method))) step.Passed
+step_at T p (op.Object f n) = cond (nat_lt p.method n) (method_step p.list (slice_get T.methods (f + p.method))) step.Passed
 step_at T p (op.Select x) = step.Passed
 step_at T p (op.Update x b) = step.Body b
 step_at T p op.Clone = step.Passed
 step_at T p (op.Let b) = step.Body b
 
 abbrev pub step_in : Text → Pending → ListEntry → Step
-step_in T p e = cond (nat_lt p.next e.len) (if_some (nth T.operations (e.first + p.next)) (step_at T p) step.Astray) step.Ended
+step_in T p e = cond (nat_lt p.next e.len) (if_some (slice_get T.operations (e.first + p.next)) (step_at T p) step.Astray) step.Ended
 
 abbrev pub step_of : Text → Pending → Step
-step_of T p = if_some (nth T.contents p.list) (step_in T p) step.Astray
+step_of T p = if_some (slice_get T.contents p.list) (step_in T p) step.Astray
 
 abbrev pub is_method : Step → Bool
 is_method step.Ended = false

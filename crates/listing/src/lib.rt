@@ -65,36 +65,26 @@ pub fn list_back(
 }
 
 /// A program that stands for the tree of a term is listed back as the term's rows.
-pub fn lists_back() -> u8
+pub fn lists_back()
     ensures { ListsBack }
-{
-    0
-}
+{}
 
 /// Nothing else is listed back.
-pub fn lists_only() -> u8
+pub fn lists_only()
     ensures { ListsOnly }
-{
-    0
-}
+{}
 
 /// Two hundred pending lists are enough for a term within the limits.
-pub fn two_hundred() -> u8
+pub fn two_hundred()
     ensures { TwoHundred }
-{
-    0
-}
+{}
 
 /// What was compiled is listed back as the rows compiled, unused fields zero.
-pub fn round_trip() -> u8
+pub fn round_trip()
     ensures { RoundTrip }
-{
-    0
-}
+{}
 
 /// The worked examples come out as they should.
-pub fn worked() -> u8
+pub fn worked()
     ensures { Worked }
-{
-    0
-}
+{}

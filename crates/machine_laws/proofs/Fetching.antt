@@ -1,7 +1,7 @@
 -- What the next operation of a list is, where the list stands for a tree, and what a variable's value is.
-use Rattle.std.proofs.Common.{◌≡◌, ℕ, zero, suc, ◌+◌, ◌-◌, ◌≤◌, List, [], ◌∷◌, ℤ, Some, None, refl, ap, ◌∙◌, subst, sub-one, arith, lt-ltb, eq-eqb, ne_eqb}
+use Rattle.std.proofs.Common.{slice_get, ◌≡◌, ℕ, zero, suc, ◌+◌, ◌-◌, ◌≤◌, List, [], ◌∷◌, ℤ, Some, None, refl, ap, ◌∙◌, subst, sub-one, arith, lt-ltb, eq-eqb, ne_eqb}
 use Rattle.std.proofs.lemmas.Bool.{cond-true, cond-false, le-ltb}
-use Rattle.calculus.specs.Places.{nth, if_some}
+use Rattle.calculus.specs.Places.{if_some}
 use Rattle.calculus.specs.Text.{Text}
 use Rattle.calculus.specs.Trees.{Code, access_op, figure_op, object_op, Rest, done, select_op, update_op, clone_op, let_op, Bodies}
 use Rattle.calculus.specs.Standing.{RestAt, BodiesAt, Stands, AtCode, AtRest}
@@ -16,10 +16,10 @@ use Rattle.semantics.specs.Machine as tree
 use Rattle.machine_laws.specs.Standing.{EnvStands}
 
 -- environments
-cell_some : (cells : List Cell) (e i : ℕ) → e ≡ suc i → cell_of cells e ≡ nth cells i
-cell_some cells e i h = let p : e - 1 ≡ i = omega arith in cond-false _ _ _ (ne_eqb e 0 (λ z. omega arith)) ∙ ap (nth cells) p
+cell_some : (cells : List Cell) (e i : ℕ) → e ≡ suc i → cell_of cells e ≡ slice_get cells i
+cell_some cells e i h = let p : e - 1 ≡ i = omega arith in cond-false _ _ _ (ne_eqb e 0 (λ z. omega arith)) ∙ ap (slice_get cells) p
 
-env_walk : (cells : List Cell) (e : ℕ) (vs : Env) → EnvStands cells e vs → (j : ℕ) → walked j cells e ≡ nth vs j
+env_walk : (cells : List Cell) (e : ℕ) (vs : Env) → EnvStands cells e vs → (j : ℕ) → walked j cells e ≡ slice_get vs j
 unfolding walked
 env_walk cells e [] h zero = ap (λ x. walked 0 cells x) h
 env_walk cells e [] h (suc j) = ap (λ x. walked (suc j) cells x) h
@@ -39,12 +39,12 @@ rest_up T l p q (clone_op r) h = let k = rest_up T l (suc p) q r h.1 in omega ar
 rest_up T l p q (let_op c r) h = let k = rest_up T l (suc p) q r h.3 in omega arith
 
 -- the operation at a place, and the end
-fetch_at : (T : Text) (l i : ℕ) (e : ListEntry) (o : Operation) → nth T.contents l ≡ Some e → suc (e.first + i) ≤ e.first + e.len → nth T.operations (e.first + i) ≡ Some o →
+fetch_at : (T : Text) (l i : ℕ) (e : ListEntry) (o : Operation) → slice_get T.contents l ≡ Some e → suc (e.first + i) ≤ e.first + e.len → slice_get T.operations (e.first + i) ≡ Some o →
     fetched T l i ≡ Found o
 fetch_at T l i e o h k g =
     ap (λ x. if_some x (λ y. fetched_from T.operations y i) Outside) h ∙ cond-true _ _ _ (lt-ltb i e.len (omega arith)) ∙ ap (λ x. if_some x Found Outside) g
 
-fetch_end : (T : Text) (l i : ℕ) (e : ListEntry) → nth T.contents l ≡ Some e → e.first + i ≡ e.first + e.len → fetched T l i ≡ Ended
+fetch_end : (T : Text) (l i : ℕ) (e : ListEntry) → slice_get T.contents l ≡ Some e → e.first + i ≡ e.first + e.len → fetched T l i ≡ Ended
 fetch_end T l i e h k =
     ap (λ x. if_some x (λ y. fetched_from T.operations y i) Outside) h ∙ cond-false _ _ _ (le-ltb i e.len (omega arith)) ∙ cond-true _ _ _ (eq-eqb i e.len (omega arith))
 
@@ -53,7 +53,7 @@ module _ (T : Text) (l i : ℕ) where
   fetch_done h = fetch_end T l i h.entry h.found h.holds
 
   -- the operation, and what comes after it
-  on : (o : Operation) (r : Rest) (e : ListEntry) → nth T.contents l ≡ Some e → nth T.operations (e.first + i) ≡ Some o → RestAt T l (suc (e.first + i)) (e.first + e.len) r →
+  on : (o : Operation) (r : Rest) (e : ListEntry) → slice_get T.contents l ≡ Some e → slice_get T.operations (e.first + i) ≡ Some o → RestAt T l (suc (e.first + i)) (e.first + e.len) r →
       (fetched T l i ≡ Found o) × AtRest T l (i + 1) r
   on o r e h g k =
       let z : suc (e.first + i) ≡ e.first + (i + 1) = omega arith in (

@@ -1,6 +1,5 @@
 -- What a list, an environment, an object, a store or a machine stands for is one thing.
-use Rattle.std.proofs.Common.{◌≡◌, ℕ, suc, ◌+◌, List, [], ◌∷◌, Some, Option, sym, refl, ap, ◌∙◌, subst, ap₂, subst₂, arith}
-use Rattle.calculus.specs.Places.{nth}
+use Rattle.std.proofs.Common.{slice_get, ◌≡◌, ℕ, suc, ◌+◌, List, [], ◌∷◌, Some, Option, sym, refl, ap, ◌∙◌, subst, ap₂, subst₂, arith}
 use Rattle.calculus.specs.Text.{Text}
 use Rattle.calculus.specs.Trees.{Code, access_op, figure_op, object_op, Rest, done, select_op, update_op, clone_op, let_op, Bodies, no_body, body}
 use Rattle.calculus.specs.Standing.{Listed, CodeAt, RestAt, BodiesAt, Stands, AtCode, AtRest}
@@ -105,8 +104,8 @@ env_one cells e (v ∷ vs) [] h g = absurd (omega (arith, g, h.2))
 env_one cells e (v ∷ vs) (w ∷ ws) h g =
     let ei : g.0 ≡ h.0 = omega (arith, h.2, g.2) in
     let cell : Value → ℕ → Cell = λ x p. record { value = x; parent = p } in
-    let e₁ : nth cells h.0 ≡ Some (cell v h.1) = h.3 in
-    let e₂ : nth cells h.0 ≡ Some (cell w g.1) = subst (λ i. nth cells i ≡ Some (cell w g.1)) ei g.3 in
+    let e₁ : slice_get cells h.0 ≡ Some (cell v h.1) = h.3 in
+    let e₂ : slice_get cells h.0 ≡ Some (cell w g.1) = subst (λ i. slice_get cells i ≡ Some (cell w g.1)) ei g.3 in
     let ec : cell v h.1 ≡ cell w g.1 = cc in
     let ev : v ≡ w = ap (λ (x : Cell). x.value) ec in let ee : g.1 ≡ h.1 = sym (ap (λ (x : Cell). x.parent) ec) in
     ap₂ (λ (x : Value) (y : Env). x ∷ y) ev (env_one cells h.1 vs ws h.4 (subst (λ x. EnvStands cells x ws) ee g.4))

@@ -1,8 +1,8 @@
 -- The reductions of the table machine are those of the machine on trees.
-use Rattle.std.proofs.Common.{◌≡◌, ℕ, suc, ◌+◌, ◌<◌, Bool, true, false, cond, ltb, leb, List, [], ◌∷◌, ◌++◌, map, length, set, Some, None, Ok, Err, Option, Result, sym, refl, ap, ◌∙◌, subst, arith, le-leb}
+use Rattle.std.proofs.Common.{slice_get, ◌≡◌, ℕ, suc, ◌+◌, ◌<◌, Bool, true, false, cond, ltb, leb, List, [], ◌∷◌, ◌++◌, map, length, set, Some, None, Ok, Err, Option, Result, sym, refl, ap, ◌∙◌, subst, arith, le-leb}
 use lib.ListN.{length-map}
 use Rattle.std.proofs.lemmas.Bool.{cond-true}
-use Rattle.calculus.specs.Places.{nth, if_some}
+use Rattle.calculus.specs.Places.{if_some}
 use Rattle.calculus.specs.Text.{Text}
 use Rattle.calculus.specs.Terms.{Term, val, select, update, clone, Closed, Within, inst_var}
 use Rattle.calculus.specs.Trees.{Code, access_op, figure_op, object_op, Rest, done, select_op, update_op, clone_op, let_op, Bodies}
@@ -71,7 +71,7 @@ module _ (T : Text) (s : State) (m : Meaning) where
       let o : Object = methods_of (entries_at T f n) s.registers.at.env in
       ap (λ k. located s (with_objects m (added (room_for m k) o m.objects)) (more making s.registers.report) (room_for m k)) (sym (length-map (entries_at T f n) _)) ∙ acts_adds making o
 
-  acts_copy : (l : ℕ) (o : Object) → nth m.objects l ≡ Some o → Acts (Copied l) (adds cloning o)
+  acts_copy : (l : ℕ) (o : Object) → slice_get m.objects l ≡ Some o → Acts (Copied l) (adds cloning o)
   acts_copy l o h =
       ap (λ x. located s (with_objects m (if_some x (λ p. added (room_for m (length p)) p m.objects) m.objects)) (more cloning s.registers.report) (if_some x (λ p. room_for m (length p)) (Err NoLocation))) h
       ∙ acts_adds cloning o
@@ -79,7 +79,7 @@ module _ (T : Text) (s : State) (m : Meaning) where
   acts_enter : (k : Kind) (v : Value) (e l : ℕ) → reduce.enters s m v e l (more k s.registers.report) ≡ unless_hindered (hinders s m (enters k v e l)) s m (enters k v e l)
   acts_enter k v e l = enters_by (ltb (length s.cells) s.cell_room) (ltb (length s.frames) s.frame_room) s m k v e l
 
-  acts_put : (l p b : ℕ) (o : Object) (x : Method) → nth m.objects l ≡ Some o → nth o p ≡ Some x → Acts (Put l p b) (alters l p (record { list = b; env = s.registers.at.env }))
+  acts_put : (l p b : ℕ) (o : Object) (x : Method) → slice_get m.objects l ≡ Some o → slice_get o p ≡ Some x → Acts (Put l p b) (alters l p (record { list = b; env = s.registers.at.env }))
   acts_put l p b o x h g = cc
 
 -- the point of execution
@@ -93,7 +93,7 @@ lost_at : (vs : Env) (r : Rest) (a : Term) (n : ℕ) → (Closed 0 a → Within 
 lost_at vs r a n h = record { context = context_of vs r hole; redex = a; is = sym (plug_context vs r hole a); has = h }
 
 -- no object there
-not_there : (σ : TreeStore) (n : ℕ) → nth σ n ≡ None → n < length (unload_store σ) → ⊥
+not_there : (σ : TreeStore) (n : ℕ) → slice_get σ n ≡ None → n < length (unload_store σ) → ⊥
 not_there σ n e h = object_missing (unload_store σ) n (object_none unload_closure σ n e) h
 
 -- a list from its start
@@ -102,7 +102,7 @@ at_start T n c h =
     let z : h.entry.first ≡ h.entry.first + 0 = omega arith in
     record { entry = h.entry; found = h.found; holds = subst (λ x. CodeAt T n x (h.entry.first + h.entry.len) c) z h.holds }
 
-nth_last : (cells : List Cell) (c : Cell) → nth (cells ++ (c ∷ [])) (length cells) ≡ Some c
+nth_last : (cells : List Cell) (c : Cell) → slice_get (cells ++ (c ∷ [])) (length cells) ≡ Some c
 nth_last [] c = refl
 nth_last (x ∷ cells) c = nth_last cells c
 
@@ -111,7 +111,7 @@ pub env_push : (cells : List Cell) (v : Value) (e : ℕ) (vs : Env) → EnvStand
 env_push cells v e vs h = (length cells, e, refl, nth_last cells (record { value = v; parent = e }), env_more cells (record { value = v; parent = e } ∷ []) e vs h)
 
 -- an object without a label, unloaded
-find_none : (σ : TreeStore) (n l : ℕ) (x : objects.Object (tree.Closure Code)) → nth σ n ≡ Some x → objects.find x l ≡ None → objects.find (map (objects.relabel unload_closure) x) l ≡ None
+find_none : (σ : TreeStore) (n l : ℕ) (x : objects.Object (tree.Closure Code)) → slice_get σ n ≡ Some x → objects.find x l ≡ None → objects.find (map (objects.relabel unload_closure) x) l ≡ None
 find_none σ n l x h g =
     sym (method_in (unload_store σ) n l (map (objects.relabel unload_closure) x) (object_some unload_closure σ n x h)) ∙ method_none unload_closure σ n l (method_in σ n l x h ∙ g)
 
@@ -157,7 +157,7 @@ module _ (T : Text) (s : State) (m : Meaning) (σ : TreeStore) (hs : StoreStands
         }
 
     -- a select of a method at a place, or of none
-    judge_call : (n l : ℕ) (o : Object) (x : objects.Object (tree.Closure Code)) (i : Option ℕ) → nth m.objects n ≡ Some o → nth σ n ≡ Some x → Placed T s.cells o x l i →
+    judge_call : (n l : ℕ) (o : Object) (x : objects.Object (tree.Closure Code)) (i : Option ℕ) → slice_get m.objects n ≡ Some o → slice_get σ n ≡ Some x → Placed T s.cells o x l i →
         Judgement T s m (full (select_op l r) vs (Location n) rs) σ (or_stop (labelled i (selects_at m n)))
     judge_call n l o x _ po px (nowhere e) =
         judged_21 (label_at vs r (select (val (Location n)) l) (unload_store σ) (select_missing (object_some unload_closure σ n x px) (find_none σ n l x px e)))
@@ -166,13 +166,13 @@ module _ (T : Text) (s : State) (m : Meaning) (σ : TreeStore) (hs : StoreStands
         (judged_ready (Call (Location n) w.closure) (enters selecting (Location n) w.closure.env w.closure.list) tt (acts_enter T s m selecting (Location n) w.closure.env w.closure.list)
         (going_in selecting (full (select_op l r) vs (Location n) rs) (Location n) w.closure.env w.closure.list c ws (β_select (method_in σ n l x px ∙ e)) h.0 h.1))
 
-    judge_select : (n l : ℕ) (x : Option Object) (y : Option (objects.Object (tree.Closure Code))) → nth m.objects n ≡ x → nth σ n ≡ y → Located T s.cells x y →
+    judge_select : (n l : ℕ) (x : Option Object) (y : Option (objects.Object (tree.Closure Code))) → slice_get m.objects n ≡ x → slice_get σ n ≡ y → Located T s.cells x y →
         Judgement T s m (full (select_op l r) vs (Location n) rs) σ (or_stop (by_store (if_some x (λ o. Ok (place_from 0 o l)) (Err NoLocation)) (λ i. labelled i (selects_at m n))))
     judge_select n l _ _ po px gone = judged_lost (fault.Store NoLocation) (lost_at vs r (select (val (Location n)) l) (length (unload_store σ)) (λ c w. not_there σ n px w))
     judge_select n l _ _ po px (there o x h) = judge_call n l o x (place_from 0 o l) po px (places T s.cells o x l h)
 
     -- an update
-    judge_change : (n l b : ℕ) (c : Code) (o : Object) (x : objects.Object (tree.Closure Code)) (i : Option ℕ) → nth m.objects n ≡ Some o → nth σ n ≡ Some x → Placed T s.cells o x l i → Stands T b c →
+    judge_change : (n l b : ℕ) (c : Code) (o : Object) (x : objects.Object (tree.Closure Code)) (i : Option ℕ) → slice_get m.objects n ≡ Some o → slice_get σ n ≡ Some x → Placed T s.cells o x l i → Stands T b c →
         Judgement T s m (full (update_op l c r) vs (Location n) rs) σ (or_stop (labelled i (λ p. Ok (Put n p b))))
     judge_change n l b c o x _ po px (nowhere e) hb =
         judged_21 (label_at vs r (update (val (Location n)) l (unload_code 1 vs c)) (unload_store σ) (update_missing (object_some unload_closure σ n x px) (find_none σ n l x px e)))
@@ -190,13 +190,13 @@ module _ (T : Text) (s : State) (m : Meaning) (σ : TreeStore) (hs : StoreStands
           store_after = (length_with σ n l (closure c vs), o, w, po, q);
         })
 
-    judge_update : (n l b : ℕ) (c : Code) (x : Option Object) (y : Option (objects.Object (tree.Closure Code))) → nth m.objects n ≡ x → nth σ n ≡ y → Located T s.cells x y → Stands T b c →
+    judge_update : (n l b : ℕ) (c : Code) (x : Option Object) (y : Option (objects.Object (tree.Closure Code))) → slice_get m.objects n ≡ x → slice_get σ n ≡ y → Located T s.cells x y → Stands T b c →
         Judgement T s m (full (update_op l c r) vs (Location n) rs) σ (or_stop (by_store (if_some x (λ o. Ok (place_from 0 o l)) (Err NoLocation)) (λ i. labelled i (λ p. Ok (Put n p b)))))
     judge_update n l b c _ _ po px gone hb = judged_lost (fault.Store NoLocation) (lost_at vs r (update (val (Location n)) l (unload_code 1 vs c)) (length (unload_store σ)) (λ k w. not_there σ n px w.0))
     judge_update n l b c _ _ po px (there o x h) hb = judge_change n l b c o x (place_from 0 o l) po px (places T s.cells o x l h) hb
 
     -- a clone
-    judge_clone : (n : ℕ) (x : Option Object) (y : Option (objects.Object (tree.Closure Code))) → nth m.objects n ≡ x → nth σ n ≡ y → Located T s.cells x y →
+    judge_clone : (n : ℕ) (x : Option Object) (y : Option (objects.Object (tree.Closure Code))) → slice_get m.objects n ≡ x → slice_get σ n ≡ y → Located T s.cells x y →
         Judgement T s m (full (clone_op r) vs (Location n) rs) σ (or_stop (by_store (if_some x (λ o. Ok (length o)) (Err NoLocation)) (λ k. Ok (Copied n))))
     judge_clone n _ _ po px gone = judged_lost (fault.Store NoLocation) (lost_at vs r (clone (val (Location n))) (length (unload_store σ)) (λ c w. not_there σ n px w))
     judge_clone n _ _ po px (there o x h) = judged_ready (Copied n) (adds cloning o) tt (acts_copy T s m n o po) (adding cloning (full (clone_op r) vs (Location n) rs) o x (β_clone px) h)

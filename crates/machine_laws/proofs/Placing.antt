@@ -1,6 +1,5 @@
 -- Objects and stores that stand for others: what is found where, and what an update or a new object makes of them.
-use Rattle.std.proofs.Common.{◌≡◌, ℕ, zero, suc, ◌+◌, ◌≤◌, Bool, true, false, cond, eqb, List, [], ◌∷◌, ◌++◌, length, take, drop, set, Some, None, Option, sym, refl, ap, ◌∙◌, subst, subst₂, arith}
-use Rattle.calculus.specs.Places.{nth}
+use Rattle.std.proofs.Common.{slice_get, ◌≡◌, ℕ, zero, suc, ◌+◌, ◌≤◌, Bool, true, false, cond, eqb, List, [], ◌∷◌, ◌++◌, length, take, drop, set, Some, None, Option, sym, refl, ap, ◌∙◌, subst, subst₂, arith}
 use Rattle.calculus.specs.Text.{Text}
 use Rattle.calculus.specs.Trees.{Code, Bodies, no_body, body}
 use Rattle.calculus.specs.Standing.{BodiesAt}
@@ -36,7 +35,7 @@ module _ (T : Text) (cells : List Cell) where
   -- the place of a label: nowhere on both sides; or a method there that stands for the one found, and that can be replaced
   pub data Placed (o : Object) (x : TreeObject) (l : ℕ) : Option ℕ → Type 0 where
     nowhere : find x l ≡ None → Placed o x l None
-    somewhere : (p : ℕ) (m : Method) (f : tree.Closure Code) → nth o p ≡ Some m → find x l ≡ Some f → ClosureStands T cells m.closure f →
+    somewhere : (p : ℕ) (m : Method) (f : tree.Closure Code) → slice_get o p ≡ Some m → find x l ≡ Some f → ClosureStands T cells m.closure f →
         ((c : Closure) (g : tree.Closure Code) → ClosureStands T cells c g → ObjectStands T cells (set o p (with_closure m c)) (replace x l g)) → Placed o x l (Some p)
 
   -- the first method has the label, or has not
@@ -71,7 +70,7 @@ module _ (T : Text) (cells : List Cell) where
     gone : Located None None
     there : (o : Object) (x : TreeObject) → ObjectStands T cells o x → Located (Some o) (Some x)
 
-  pub locates : (os : List Object) (σ : TreeStore) (n : ℕ) → StoreStands T cells os σ → Located (nth os n) (nth σ n)
+  pub locates : (os : List Object) (σ : TreeStore) (n : ℕ) → StoreStands T cells os σ → Located (slice_get os n) (slice_get σ n)
   locates [] [] n h = gone
   locates [] (x ∷ σ) n h = absurd h
   locates (o ∷ os) [] n h = absurd h
@@ -91,7 +90,7 @@ module _ (T : Text) (cells : List Cell) where
   stands_push (p ∷ os) [] o x h g = absurd h
   stands_push (p ∷ os) (y ∷ σ) o x h g = (h.0, stands_push os σ o x h.1 g)
 
-  pub stands_with : (os : List Object) (σ : TreeStore) (n l : ℕ) (x : TreeObject) (o : Object) (g : tree.Closure Code) → StoreStands T cells os σ → nth σ n ≡ Some x →
+  pub stands_with : (os : List Object) (σ : TreeStore) (n l : ℕ) (x : TreeObject) (o : Object) (g : tree.Closure Code) → StoreStands T cells os σ → slice_get σ n ≡ Some x →
       ObjectStands T cells o (replace x l g) → StoreStands T cells (set os n o) (with_method σ n l g)
   stands_with [] [] n l x o g h e k = tt
   stands_with [] (y ∷ σ) n l x o g h e k = absurd h
@@ -100,7 +99,7 @@ module _ (T : Text) (cells : List Cell) where
   stands_with (p ∷ os) (y ∷ σ) (suc n) l x o g h e k = (h.0, stands_with os σ n l x o g h.1 e k)
 
   -- an object from its bodies
-  drop_nth : (ms : List MethodEntry) (f : ℕ) (e : MethodEntry) → nth ms f ≡ Some e → drop f ms ≡ e ∷ drop (suc f) ms
+  drop_nth : (ms : List MethodEntry) (f : ℕ) (e : MethodEntry) → slice_get ms f ≡ Some e → drop f ms ≡ e ∷ drop (suc f) ms
   drop_nth [] f e h = let z : ◌≡◌ {A = ℕ} 0 1 = cc in absurd (omega arith)
   drop_nth (x ∷ ms) zero e h = let z : x ≡ e = cc in ap (λ (w : MethodEntry). w ∷ ms) z
   drop_nth (x ∷ ms) (suc f) e h = drop_nth ms f e h

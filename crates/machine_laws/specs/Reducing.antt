@@ -1,6 +1,5 @@
 -- The reductions of the table machine.
-use Rattle.std.specs.Prelude.{◌≡◌, ℕ, ◌+◌, cond, [], ◌∷◌, ◌++◌, length, Some, None, Ok, Err, Option, Result, nat_le, nat_lt}
-use Rattle.calculus.specs.Places.{nth}
+use Rattle.std.specs.Prelude.{slice_get, ◌≡◌, ℕ, ◌+◌, cond, [], ◌∷◌, ◌++◌, length, Some, None, Ok, Err, Option, Result, nat_le, nat_lt}
 use Rattle.calculus.specs.Text.{Text}
 use Rattle.calculus.specs.Terms.{Term, Closed, Within}
 use Rattle.calculus.specs.Trees.{Code, done}
@@ -84,7 +83,7 @@ RightKind (alters l p c) = Unit {0}
 abbrev pub StoreAfter : Text → State → Meaning → TreeStore → Ready → TreeStore → Type 0
 StoreAfter T s m σ (adds k o) σ' = (x : objects.Object (tree.Closure Code)) × (σ' ≡ σ ++ (x ∷ [])) × ObjectStands T s.cells o x
 StoreAfter T s m σ (enters k v e l) σ' = σ' ≡ σ
-StoreAfter T s m σ (alters l p c) σ' = (length σ' ≡ length σ) × (o : Object) × (x : Method) × (nth m.objects l ≡ Some o) × (nth o p ≡ Some x)
+StoreAfter T s m σ (alters l p c) σ' = (length σ' ≡ length σ) × (o : Object) × (x : Method) × (slice_get m.objects l ≡ Some o) × (slice_get o p ≡ Some x)
 
 -- the reduction is the transition of its kind of the machine on trees, to a state and a store for which what it leaves stands
 pub record Reduction (T : Text) (s : State) (m : Meaning) (S : tree.State) (σ : TreeStore) (r : Ready) : Type 0 where

@@ -1,6 +1,5 @@
 -- What the registers, cells and frames of the table machine, and a store's objects, stand for in the machine on trees.
-use Rattle.std.specs.Prelude.{◌≡◌, ℕ, suc, ◌+◌, List, [], ◌∷◌, Some, None, Option}
-use Rattle.calculus.specs.Places.{nth}
+use Rattle.std.specs.Prelude.{slice_get, ◌≡◌, ℕ, suc, ◌+◌, List, [], ◌∷◌, Some, None, Option}
 use Rattle.calculus.specs.Text.{Text}
 use Rattle.calculus.specs.Trees.{Code, access_op, figure_op, object_op, done, select_op, update_op, clone_op, let_op}
 use Rattle.calculus.specs.Standing.{BodiesAt, Stands, AtCode, AtRest}
@@ -21,7 +20,7 @@ use Rattle.semantics.specs.Machine as tree
 -- environment e is these values
 abbrev pub EnvStands : List Cell → ℕ → Env → Type 0
 EnvStands cells e [] = e ≡ 0
-EnvStands cells e (v ∷ vs) = (i : ℕ) × (p : ℕ) × (e ≡ suc i) × (nth cells i ≡ Some (record { value = v; parent = p })) × EnvStands cells p vs
+EnvStands cells e (v ∷ vs) = (i : ℕ) × (p : ℕ) × (e ≡ suc i) × (slice_get cells i ≡ Some (record { value = v; parent = p })) × EnvStands cells p vs
 
 abbrev pub ClosureStands : Text → List Cell → Closure → tree.Closure Code → Type 0
 ClosureStands T cells f (closure c vs) = Stands T f.list c × EnvStands cells f.env vs

@@ -1,6 +1,6 @@
 -- The start of a program.
-use Rattle.std.specs.Prelude.{ℕ, zero, suc, ◌+◌, Bool, true, cond, ◌&&◌, List, [], ◌∷◌, ◌++◌, length, Some, None, Ok, Err, Option, Result, ◌==◌, nat_le, nat_lt}
-use Rattle.calculus.specs.Places.{nth, if_some}
+use Rattle.std.specs.Prelude.{slice_get, ℕ, zero, suc, ◌+◌, Bool, true, cond, ◌&&◌, List, [], ◌∷◌, ◌++◌, length, Some, None, Ok, Err, Option, Result, ◌==◌, nat_le, nat_lt}
+use Rattle.calculus.specs.Places.{if_some}
 use Rattle.calculus.specs.Text.{Text, used, rooms, within}
 use Rattle.calculus.specs.declared.code.Counts.{Counts}
 use Rattle.calculus.specs.declared.code.Tables.{Tables}
@@ -32,7 +32,7 @@ main_mark zero = None
 main_mark (suc g) = Some g
 
 abbrev pub givens_of : Text → ℕ → Option ℕ
-givens_of code p = if_some (nth code.contents p) (λ e. main_mark e.mark) None
+givens_of code p = if_some (slice_get code.contents p) (λ e. main_mark e.mark) None
 
 -- a value that names no object past the first n
 abbrev pub present : ℕ → Value → Bool

@@ -1,6 +1,6 @@
 -- The machine's state by its used parts, and what is next there.
-use Rattle.std.specs.Prelude.{ℕ, zero, suc, ◌+◌, ◌-◌, Bool, true, false, cond, List, [], ◌∷◌, Some, None, Option, ◌==◌, nat_lt}
-use Rattle.calculus.specs.Places.{nth, if_some}
+use Rattle.std.specs.Prelude.{slice_get, ℕ, zero, suc, ◌+◌, ◌-◌, Bool, true, false, cond, List, [], ◌∷◌, Some, None, Option, ◌==◌, nat_lt}
+use Rattle.calculus.specs.Places.{if_some}
 use Rattle.calculus.specs.Text.{Text}
 use Rattle.calculus.specs.declared.code.Operation.{Operation}
 use Rattle.calculus.specs.declared.code.Operation.TheVariants as op
@@ -26,14 +26,14 @@ pub record State : Type 0 where
 
 -- the operation n, from 0, of the list that an entry tells
 abbrev pub fetched_from : List Operation → ListEntry → ℕ → Fetched
-fetched_from ops e n = cond (nat_lt n e.len) (if_some (nth ops (e.first + n)) Found Outside) (cond (n == e.len) Ended Outside)
+fetched_from ops e n = cond (nat_lt n e.len) (if_some (slice_get ops (e.first + n)) Found Outside) (cond (n == e.len) Ended Outside)
 
 abbrev pub fetched : Text → ℕ → ℕ → Fetched
-fetched code l n = if_some (nth code.contents l) (λ e. fetched_from code.operations e n) Outside
+fetched code l n = if_some (slice_get code.contents l) (λ e. fetched_from code.operations e n) Outside
 
 -- the cell that an environment begins with
 abbrev pub cell_of : List Cell → ℕ → Option Cell
-cell_of cells e = cond (e == 0) None (nth cells (e - 1))
+cell_of cells e = cond (e == 0) None (slice_get cells (e - 1))
 
 -- the value k cells on from the first of an environment
 unfoldable pub walked : ℕ → List Cell → ℕ → Option Value

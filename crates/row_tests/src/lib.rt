@@ -3,8 +3,9 @@
 
 #[cfg(test)]
 mod tests {
+    use calculus::code::Counts;
     use calculus::refusals::{Refusal, RowFault};
-    use calculus::rows::{CLONE, FIGURE, LET, METHOD, OBJECT, Row, Sizes, VARIABLE};
+    use calculus::rows::{CLONE, FIGURE, LET, METHOD, OBJECT, Row, VARIABLE};
     use rows::check_rows;
     use std::alloc::AllocError;
     use std::test::Fail;
@@ -17,15 +18,15 @@ mod tests {
         }
     }
 
-    fn sizes(contents: u32, operations: u32, methods: u32) -> Result<Sizes, Refusal> {
-        Ok(Sizes {
+    fn sizes(contents: u32, operations: u32, methods: u32) -> Result<Counts, Refusal> {
+        Ok(Counts {
             contents,
             operations,
             methods,
         })
     }
 
-    fn at(fault: RowFault, row: u32) -> Result<Sizes, Refusal> {
+    fn at(fault: RowFault, row: u32) -> Result<Counts, Refusal> {
         Err(Refusal::AtRow(fault, row))
     }
 
@@ -117,7 +118,7 @@ mod tests {
         let v = row(VARIABLE, 0, 1);
         let m = row(METHOD, 4, 0);
         let o = row(OBJECT, 0, 2);
-        let cases: [(&[Row], u32, Result<Sizes, Refusal>); 28] = [
+        let cases: [(&[Row], u32, Result<Counts, Refusal>); 28] = [
             (&[], 0, Err(Refusal::RowCount)),
             (&[], 17, Err(Refusal::RowCount)),
             (&[f], 16, sizes(1, 1, 0)),

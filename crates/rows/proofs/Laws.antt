@@ -2,7 +2,7 @@
 use Rattle.std.proofs.Common.{◌≡◌, ℕ, suc, ◌+◌, Bool, true, false, ◌||◌, eqb, ltb, List, [], ◌∷◌, ◌++◌, length, Some, None, Option, Result, sym, refl, ap, ◌∙◌, subst, append-nil, arith}
 use Rattle.std.proofs.lemmas.Bool.Decides.{nat_tests}
 use Rattle.calculus.specs.declared.rows.Row.{Row}
-use Rattle.calculus.specs.declared.rows.Sizes.{Sizes}
+use Rattle.calculus.specs.declared.code.Counts.{Counts}
 use Rattle.calculus.specs.declared.refusals.RowFault.{RowFault}
 use Rattle.calculus.specs.declared.refusals.RowFault.TheVariants.{Kind, Depth, MethodCount, LabelTwice, Index, Ends, Left}
 use Rattle.calculus.specs.declared.refusals.Refusal.{Refusal}
@@ -167,7 +167,7 @@ module _ (rows : List Row) (g : ℕ) (ok : Readable rows g) where
     λ h. let found = refused_so f rows (a_term 1 g ∷ []) p h.1 in let z : ◌≡◌ {A = ℕ} 0 1 = cc in absurd (omega arith),
   )
 
-  verdict_by : (r : Result Sizes Refusal) → r ≡ sized (walk rows 0 (a_term 1 g ∷ [])) (row_sizes rows) → verdict rows g ≡ r
+  verdict_by : (r : Result Counts Refusal) → r ≡ sized (walk rows 0 (a_term 1 g ∷ [])) (row_sizes rows) → verdict rows g ≡ r
   verdict_by r e =
       let n = ok.some_rows in
       let m = ok.few_rows in
@@ -177,9 +177,9 @@ module _ (rows : List Row) (g : ℕ) (ok : Readable rows g) where
       rw (a, b) (sym e)
 
   -- an answer that is the walk's is the verdict, and keeps the laws
-  pub lawful : (r : Result Sizes Refusal) → r ≡ sized (walk rows 0 (a_term 1 g ∷ [])) (row_sizes rows) → (r ≡ verdict rows g) × Accepts rows g r × FirstFault rows g r
+  pub lawful : (r : Result Counts Refusal) → r ≡ sized (walk rows 0 (a_term 1 g ∷ [])) (row_sizes rows) → (r ≡ verdict rows g) × Accepts rows g r × FirstFault rows g r
   lawful r e = (
     sym (verdict_by r e),
-    subst (λ (x : Result Sizes Refusal). Accepts rows g x) (sym e) (accepts_by (walk rows 0 (a_term 1 g ∷ [])) refl),
-    subst (λ (x : Result Sizes Refusal). FirstFault rows g x) (sym e) (first_by (walk rows 0 (a_term 1 g ∷ [])) refl),
+    subst (λ (x : Result Counts Refusal). Accepts rows g x) (sym e) (accepts_by (walk rows 0 (a_term 1 g ∷ [])) refl),
+    subst (λ (x : Result Counts Refusal). FirstFault rows g x) (sym e) (first_by (walk rows 0 (a_term 1 g ∷ [])) refl),
   )

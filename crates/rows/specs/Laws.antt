@@ -1,7 +1,7 @@
 -- What the verdict means: which tables are accepted, and where a table is refused.
 use Rattle.std.specs.Prelude.{◌≡◌, ℕ, ◌≤◌, true, ◌↔◌, List, [], ◌∷◌, ◌++◌, length, Some, None, Ok, Err, Result}
 use Rattle.calculus.specs.declared.rows.Row.{Row}
-use Rattle.calculus.specs.declared.rows.Sizes.{Sizes}
+use Rattle.calculus.specs.declared.code.Counts.{Counts}
 use Rattle.calculus.specs.declared.refusals.RowFault.{RowFault}
 use Rattle.calculus.specs.declared.refusals.RowFault.TheVariants.{Kind, Depth, MethodCount, LabelTwice, Index, Ends, Left}
 use Rattle.calculus.specs.declared.refusals.Refusal.{Refusal}
@@ -24,7 +24,7 @@ pub record Writes (rows : List Row) (g : ℕ) (t : Term) : Type 0 where
   pub fit : fits t 1 g ≡ true
 
 -- accepted exactly if the rows are those of such a term, and then the sizes are that term's
-abbrev pub Accepts : List Row → ℕ → Result Sizes Refusal → Type 0
+abbrev pub Accepts : List Row → ℕ → Result Counts Refusal → Type 0
 Accepts rows g (Ok z) = (t : Term) × Writes rows g t × (z ≡ term_sizes t)
 Accepts rows g (Err e) = (t : Term) → Writes rows g t → ⊥
 
@@ -71,5 +71,5 @@ Because Ends rows ws p = EndsInside rows ws p
 Because Left rows ws p = LeftOver rows ws p
 
 -- refused with a fault at a row exactly where the rows before it are in order and that row has that fault first
-abbrev pub FirstFault : List Row → ℕ → Result Sizes Refusal → Type 0
+abbrev pub FirstFault : List Row → ℕ → Result Counts Refusal → Type 0
 FirstFault rows g r = (f : RowFault) (p : ℕ) → (r ≡ Err (AtRow f p)) ↔ (Readable rows g × Because f rows (a_term 1 g ∷ []) p)

@@ -1,7 +1,7 @@
 -- The verdict on a table of rows: each row is judged against what is still to come.
 use Rattle.std.specs.Prelude.{ℕ, zero, suc, ◌+◌, cond, not, ◌&&◌, ◌||◌, List, [], ◌∷◌, ◌++◌, length, drop, pos, Some, None, Ok, Err, Option, Result, ◌==◌, int_lt, nat_lt, unsigned_abs}
 use Rattle.calculus.specs.declared.rows.Row.{Row}
-use Rattle.calculus.specs.declared.rows.Sizes.{Sizes}
+use Rattle.calculus.specs.declared.code.Counts.{Counts}
 use Rattle.calculus.specs.declared.refusals.RowFault.{RowFault}
 use Rattle.calculus.specs.declared.refusals.RowFault.TheVariants.{Kind, Depth, MethodCount, LabelTwice, Index, Ends, Left}
 use Rattle.calculus.specs.declared.refusals.Refusal.{Refusal}
@@ -66,12 +66,12 @@ abbrev pub after : Result ℕ Refusal → List Row → List Want → Option Refu
 after (Ok n) rows ws = walk (drop n rows) n ws
 after (Err e) rows ws = Some e
 
-abbrev pub sized : Option Refusal → Sizes → Result Sizes Refusal
+abbrev pub sized : Option Refusal → Counts → Result Counts Refusal
 sized (Some e) z = Err e
 sized None z = Ok z
 
 -- 1 and 2 before the rows, then the rows; accepted, what they take of each table
-abbrev pub verdict : List Row → ℕ → Result Sizes Refusal
+abbrev pub verdict : List Row → ℕ → Result Counts Refusal
 verdict rows g =
     cond (length rows == 0 || nat_lt 65535 (length rows)) (Err RowCount)
     (cond (nat_lt 16 g) (Err GivenCount) (sized (walk rows 0 (a_term 1 g ∷ [])) (row_sizes rows)))

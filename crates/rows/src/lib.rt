@@ -7,8 +7,9 @@ ghost use Rattle.calculus.specs.Sizes.{row_sizes};
 ghost use Rattle.rows.specs.Verdict.{Want, a_term, methods, term_fault, method_fault, walk, after, verdict};
 ghost use Rattle.rows.specs.Laws.{Accepts, FirstFault};
 
+use calculus::code::Counts;
 use calculus::refusals::{Refusal, RowFault};
-use calculus::rows::{CLONE, FIGURE, LET, METHOD, OBJECT, Row, SELECT, Sizes, UPDATE, VARIABLE};
+use calculus::rows::{CLONE, FIGURE, LET, METHOD, OBJECT, Row, SELECT, UPDATE, VARIABLE};
 
 /// A table has at most this many rows.
 pub const MOST_ROWS: usize = 65_535;
@@ -118,7 +119,7 @@ fn check_methods(
 }
 
 /// What the rows take of each code table.
-fn sizes_of(rows: &[Row]) -> Sizes
+fn sizes_of(rows: &[Row]) -> Counts
     requires { length rows.now ≤ 65535 }
     ensures { result ≡ row_sizes rows.now }
 {
@@ -138,7 +139,7 @@ fn sizes_of(rows: &[Row]) -> Sizes
             _ => operations += 1,
         }
     }
-    Sizes {
+    Counts {
         contents,
         operations,
         methods,
@@ -146,7 +147,7 @@ fn sizes_of(rows: &[Row]) -> Sizes
 }
 
 /// Accepts the rows of a term under a number of givens, with what they take of each code table, or refuses at the first faulty row.
-pub fn check_rows(rows: &[Row], givens: u32) -> Result<Sizes, Refusal>
+pub fn check_rows(rows: &[Row], givens: u32) -> Result<Counts, Refusal>
     ensures verdict { result ≡ verdict rows.now givens }
     ensures accepts { Accepts rows.now givens result }
     ensures first { FirstFault rows.now givens result }

@@ -1,9 +1,8 @@
 -- A term has one decomposition, and a rule is what its redex contracts to.
-use Rattle.std.proofs.Common.{◌≡◌, ℕ, ◌⊎◌, [], ◌∷◌, ◌++◌, length, Some, None, Option, sym, refl, ap, ◌∙◌, subst₂, inl, inr, arith}
+use Rattle.std.proofs.Common.{slice_get, ◌≡◌, ℕ, ◌⊎◌, [], ◌∷◌, ◌++◌, length, Some, None, Option, sym, refl, ap, ◌∙◌, subst₂, inl, inr, arith}
 use mathlib.Core.Path.{subst₃}
 use Rattle.calculus.specs.declared.values.Value.{Value}
 use Rattle.calculus.specs.declared.values.Value.TheVariants.{Figure, Location}
-use Rattle.calculus.specs.Places.{nth}
 use Rattle.calculus.specs.Terms.{Term, var, val, object, select, update, clone, bind, subst₁, Closed, Within}
 use Rattle.semantics.specs.Objects.{Object, Store, method_at, with_method}
 use Rattle.semantics.specs.Reduction.{Kind, making, selecting, updating, cloning, letting, Context, hole, select_in, update_in, clone_in, bind_in, plug}
@@ -76,7 +75,7 @@ update_fires σ n l b (Some old) h = fires updating (val (Location n)) (with_met
 update_fires σ n l b None h =
     idles (rw h) (elim (method_missing σ n l h) [ inl p ↦ inl (inr (update_missing p.1 p.2)) | inr f ↦ inr (λ c w. f w.0) ])
 
-clone_fires : (σ : Store Term) (n : ℕ) (m : Option (Object Term)) → nth σ n ≡ m → Fires (clone_redex (Location n)) σ
+clone_fires : (σ : Store Term) (n : ℕ) (m : Option (Object Term)) → slice_get σ n ≡ m → Fires (clone_redex (Location n)) σ
 clone_fires σ n (Some o) h = fires cloning (val (Location (length σ))) (σ ++ (o ∷ [])) (red_clone h)
 clone_fires σ n None h = idles (rw h) (inr (λ c w. object_missing σ n h w))
 
@@ -88,7 +87,7 @@ fires_or_idles (select_redex (Location n) l) σ = select_fires σ n l (method_at
 fires_or_idles (update_redex (Figure k) l b) σ = idles refl (inl (inl update_figure))
 fires_or_idles (update_redex (Location n) l b) σ = update_fires σ n l b (method_at σ n l) refl
 fires_or_idles (clone_redex (Figure k)) σ = idles refl (inl (inl clone_figure))
-fires_or_idles (clone_redex (Location n)) σ = clone_fires σ n (nth σ n) refl
+fires_or_idles (clone_redex (Location n)) σ = clone_fires σ n (slice_get σ n) refl
 fires_or_idles (let_redex v b) σ = fires letting (subst₁ v b) σ red_let
 
 pub reduction_found : {k : Kind} {t : Term} {σ : Store Term} {t' : Term} {σ' : Store Term} → Reduces k t σ t' σ' → Found k t σ t' σ'

@@ -1,9 +1,9 @@
 -- The machine on plain lists runs as the machine on trees.
-use Rattle.std.proofs.Common.{◌≡◌, ℕ, ◌↔◌, List, [], ◌∷◌, ◌++◌, map, length, Some, None, Option, sym, refl, ap, ◌∙◌, subst, ap₂, subst₂, arith}
+use Rattle.std.proofs.Common.{slice_get, ◌≡◌, ℕ, ◌↔◌, List, [], ◌∷◌, ◌++◌, map, length, Some, None, Option, sym, refl, ap, ◌∙◌, subst, ap₂, subst₂, arith}
 use lib.ListN.{length-map}
 use Rattle.calculus.specs.declared.values.Value.{Value}
 use Rattle.calculus.specs.declared.values.Value.TheVariants.{Figure, Location}
-use Rattle.calculus.specs.Places.{nth, if_some}
+use Rattle.calculus.specs.Places.{if_some}
 use Rattle.calculus.specs.Terms.{Term, var, val, object, select, update, clone, bind, Methods, nil, method}
 use Rattle.calculus.specs.Trees.{Code, access_op, figure_op, object_op, Rest, done, select_op, update_op, clone_op, let_op, Bodies, no_body, body, trans, trans_all}
 use Rattle.semantics.specs.Objects.{labelled, Object, method_at, with_method, relabel}
@@ -88,7 +88,7 @@ list_step (state (op (FIGURE k) p) e a rs) s = on_empty a (goes (τ loading) (st
 list_step (state (op (OBJECT ps) p) e a rs) s = on_empty a (goes (β making) (state p e (Some (Location (length s))) rs) (s ++ (close_ops e ps ∷ [])))
 list_step (state (op (SELECT l) p) e a rs) s = on_location a (λ n. if_some (method_at s n l) (λ f. goes (β selecting) (list_entered f (Location n) (closure p e ∷ rs)) s) blocks)
 list_step (state (op (UPDATE l q) p) e a rs) s = on_location a (λ n. if_some (method_at s n l) (λ _. goes (β updating) (state p e (Some (Location n)) rs) (with_method s n l (closure q e))) blocks)
-list_step (state (op CLONE p) e a rs) s = on_location a (λ n. if_some (nth s n) (λ o. goes (β cloning) (state p e (Some (Location (length s))) rs) (s ++ (o ∷ []))) blocks)
+list_step (state (op CLONE p) e a rs) s = on_location a (λ n. if_some (slice_get s n) (λ o. goes (β cloning) (state p e (Some (Location (length s))) rs) (s ++ (o ∷ []))) blocks)
 list_step (state (op (LET q) p) e a rs) s = on_full a (λ v. goes (β letting) (state q (v ∷ e) None (closure p e ∷ rs)) s)
 
 list_transition_steps : {x : Label} {S : ListState} {s : ListStore} {S' : ListState} {s' : ListStore} → ListTransition x S s S' s' → list_step S s ≡ goes x S' s'
@@ -154,7 +154,7 @@ flat_step (full (update_op l c r) e (Location n) rs) s =
 flat_step (full (clone_op r) e (Figure k) rs) s = refl
 flat_step (full (clone_op r) e (Location n) rs) s =
     rw (map_nth (map (relabel flat_body)) s n)
-    (if_mapped (map (relabel flat_body)) (nth s n) _ _ (λ o. rw (push_maps flat_body s o, length-map s (map (relabel flat_body)))))
+    (if_mapped (map (relabel flat_body)) (slice_get s n) _ _ (λ o. rw (push_maps flat_body s o, length-map s (map (relabel flat_body)))))
 flat_step (full (let_op c r) e v rs) s = refl
 
 -- a transition of a flattened state is one of the tree's

@@ -1,21 +1,21 @@
 -- Stores: what is found where, what holds of each body, and what becomes of a store with f of each body.
-use Rattle.std.proofs.Common.{◌≡◌, ℕ, zero, suc, ◌<◌, Bool, true, false, cond, eqb, ◌⊎◌, List, [], ◌∷◌, ◌++◌, map, length, Some, None, Option, sym, refl, ap, ◌∙◌, subst, inl, inr, le_of_suc-le-suc, not-suc-le-zero, arith}
-use Rattle.calculus.specs.Places.{nth, if_some}
+use Rattle.std.proofs.Common.{slice_get, ◌≡◌, ℕ, zero, suc, ◌<◌, Bool, true, false, cond, eqb, ◌⊎◌, List, [], ◌∷◌, ◌++◌, map, length, Some, None, Option, sym, refl, ap, ◌∙◌, subst, inl, inr, le_of_suc-le-suc, not-suc-le-zero, arith}
+use Rattle.calculus.specs.Places.{if_some}
 use Rattle.semantics.specs.Objects.{labelled, Object, Store, find, replace, method_at, with_method, AllInObject, AllInStore, relabel, map_store}
 
 module _ {X : Type 0} where
-  pub method_in : (s : Store X) (n l : ℕ) (o : Object X) → nth s n ≡ Some o → method_at s n l ≡ find o l
+  pub method_in : (s : Store X) (n l : ℕ) (o : Object X) → slice_get s n ≡ Some o → method_at s n l ≡ find o l
   method_in [] n l o h = cc
   method_in (p ∷ s) zero l o h = let e : p ≡ o = cc in ap (λ q. find q l) e
   method_in (p ∷ s) (suc n) l o h = method_in s n l o h
 
   -- a method that is not there: the object lacks it, or there is no object
-  pub method_missing : (s : Store X) (n l : ℕ) → method_at s n l ≡ None → ((o : Object X) × (nth s n ≡ Some o) × (find o l ≡ None)) ⊎ (n < length s → ⊥)
+  pub method_missing : (s : Store X) (n l : ℕ) → method_at s n l ≡ None → ((o : Object X) × (slice_get s n ≡ Some o) × (find o l ≡ None)) ⊎ (n < length s → ⊥)
   method_missing [] n l h = inr not-suc-le-zero
   method_missing (o ∷ s) zero l h = inl (o, refl, h)
   method_missing (o ∷ s) (suc n) l h = elim (method_missing s n l h) [ inl p ↦ inl p | inr f ↦ inr (λ i. f (le_of_suc-le-suc i)) ]
 
-  pub object_missing : (s : Store X) (n : ℕ) → nth s n ≡ None → n < length s → ⊥
+  pub object_missing : (s : Store X) (n : ℕ) → slice_get s n ≡ None → n < length s → ⊥
   object_missing [] n h i = not-suc-le-zero i
   object_missing (o ∷ s) zero h i = let z : ◌≡◌ {A = ℕ} 0 1 = cc in omega arith
   object_missing (o ∷ s) (suc n) h i = object_missing s n h (le_of_suc-le-suc i)
@@ -42,7 +42,7 @@ module _ {X : Type 0} (P : X → Type 0) where
   method_has (o ∷ s) zero l x p h = find_has o l x p.0 h
   method_has (o ∷ s) (suc n) l x p h = method_has s n l x p.1 h
 
-  pub object_has : (s : Store X) (n : ℕ) (o : Object X) → AllInStore P s → nth s n ≡ Some o → AllInObject P o
+  pub object_has : (s : Store X) (n : ℕ) (o : Object X) → AllInStore P s → slice_get s n ≡ Some o → AllInObject P o
   object_has [] n o p h = let z : ◌≡◌ {A = ℕ} 0 1 = cc in absurd (omega arith)
   object_has (q ∷ s) zero o p h = let e : q ≡ o = cc in subst (AllInObject P) e p.0
   object_has (q ∷ s) (suc n) o p h = object_has s n o p.1 h
@@ -75,7 +75,7 @@ module _ {X Y : Type 0} (f : X → Y) where
   abbrev pub map_some : Option X → Option Y
   map_some o = if_some o (λ x. Some (f x)) None
 
-  pub map_nth : (xs : List X) (n : ℕ) → nth (map f xs) n ≡ map_some (nth xs n)
+  pub map_nth : (xs : List X) (n : ℕ) → slice_get (map f xs) n ≡ map_some (slice_get xs n)
   map_nth [] n = refl
   map_nth (x ∷ xs) zero = refl
   map_nth (x ∷ xs) (suc n) = map_nth xs n
@@ -120,10 +120,10 @@ module _ {X Y : Type 0} (f : X → Y) where
   pub method_none : (s : Store X) (n l : ℕ) → method_at s n l ≡ None → method_at (map_store f s) n l ≡ None
   method_none s n l h = method_maps s n l ∙ ap (map_some f) h
 
-  pub object_some : (s : Store X) (n : ℕ) (o : Object X) → nth s n ≡ Some o → nth (map_store f s) n ≡ Some (map (relabel f) o)
+  pub object_some : (s : Store X) (n : ℕ) (o : Object X) → slice_get s n ≡ Some o → slice_get (map_store f s) n ≡ Some (map (relabel f) o)
   object_some s n o h = map_nth (map (relabel f)) s n ∙ ap (map_some (map (relabel f))) h
 
-  pub object_none : (s : Store X) (n : ℕ) → nth s n ≡ None → nth (map_store f s) n ≡ None
+  pub object_none : (s : Store X) (n : ℕ) → slice_get s n ≡ None → slice_get (map_store f s) n ≡ None
   object_none s n h = map_nth (map (relabel f)) s n ∙ ap (map_some (map (relabel f))) h
 
   pub push_maps : (s : Store X) (o : Object X) → map_store f (s ++ (o ∷ [])) ≡ map_store f s ++ (map (relabel f) o ∷ [])

@@ -1,9 +1,8 @@
 -- Each transition of the machine is what it mirrors in the reference.
-use Rattle.std.proofs.Common.{◌≡◌, ℕ, zero, suc, ◌-◌, true, false, List, [], ◌∷◌, ◌++◌, map, length, Some, refl, ap, ◌∙◌, subst, subst₂, arith}
+use Rattle.std.proofs.Common.{slice_get, ◌≡◌, ℕ, zero, suc, ◌-◌, true, false, List, [], ◌∷◌, ◌++◌, map, length, Some, refl, ap, ◌∙◌, subst, subst₂, arith}
 use lib.ListN.{length-map}
 use Rattle.calculus.specs.declared.values.Value.{Value}
 use Rattle.calculus.specs.declared.values.Value.TheVariants.{Location}
-use Rattle.calculus.specs.Places.{nth}
 use Rattle.calculus.specs.Terms.{Term, val, object, select, update, clone, bind, past, inst_var}
 use Rattle.calculus.specs.Trees.{Code, Rest, done, select_op, update_op, clone_op, let_op, Bodies, no_body, body}
 use Rattle.semantics.specs.Objects.{labelled, Object, Store, method_at, with_method, relabel}
@@ -28,7 +27,7 @@ plug_context e (let_op c r) R a = plug_context e r (bind_in R (unload_code 1 e c
 pub var_past : (e : Env) (j : ℕ) → inst_var 0 e (suc j) ≡ past 0 e j
 var_past e j = let h : suc j - 1 ≡ j = omega arith in grind (arith, h)
 
-past_some : (e : Env) (j : ℕ) (v : Value) → nth e j ≡ Some v → past 0 e j ≡ val v
+past_some : (e : Env) (j : ℕ) (v : Value) → slice_get e j ≡ Some v → past 0 e j ≡ val v
 past_some [] j v h = cc
 past_some (w ∷ e) zero v h = cc
 past_some (w ∷ e) (suc j) v h = past_some e j v h
@@ -55,7 +54,7 @@ rule_update : (s : TreeStore) (n l : ℕ) (old : Closure Code) (c : Code) (e : E
     Rule updating (update (val (Location n)) l (unload_code 1 e c)) (unload_store s) (val (Location n)) (unload_store (with_method s n l (closure c e)))
 rule_update s n l old c e h = rw (with_maps unload_closure s n l (closure c e)) (red_update (method_some unload_closure s n l old h))
 
-rule_clone : (s : TreeStore) (n : ℕ) (o : Object (Closure Code)) → nth s n ≡ Some o →
+rule_clone : (s : TreeStore) (n : ℕ) (o : Object (Closure Code)) → slice_get s n ≡ Some o →
     Rule cloning (clone (val (Location n))) (unload_store s) (val (Location (length s))) (unload_store (s ++ (o ∷ [])))
 rule_clone s n o h = rw (push_maps unload_closure s o, ← length-map s (map (relabel unload_closure))) (red_clone (object_some unload_closure s n o h))
 

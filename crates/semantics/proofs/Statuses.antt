@@ -1,9 +1,8 @@
 -- Every state of the machine makes a transition, is finished, or is blocked with a stuck term.
-use Rattle.std.proofs.Common.{◌≡◌, ℕ, zero, suc, ◌+◌, List, [], ◌∷◌, ◌++◌, map, length, Some, None, Option, sym, refl, ap, ◌∙◌, subst, arith}
+use Rattle.std.proofs.Common.{slice_get, ◌≡◌, ℕ, zero, suc, ◌+◌, List, [], ◌∷◌, ◌++◌, map, length, Some, None, Option, sym, refl, ap, ◌∙◌, subst, arith}
 use mathlib.Core.Path.{subst₃}
 use Rattle.calculus.specs.declared.values.Value.{Value}
 use Rattle.calculus.specs.declared.values.Value.TheVariants.{Figure, Location}
-use Rattle.calculus.specs.Places.{nth}
 use Rattle.calculus.specs.Terms.{Term, var, past, inst_var}
 use Rattle.calculus.specs.Trees.{Code, access_op, figure_op, object_op, Rest, done, select_op, update_op, clone_op, let_op}
 use Rattle.semantics.specs.Objects.{Object, Store, method_at, with_method}
@@ -47,7 +46,7 @@ pub data Status (S : State) (s : TreeStore) : Type 0 where
 idle_rest : (e : Env) (r : Rest) (x : Redex) (σ : Store Term) → contract x σ ≡ idle → (Rs : List Context) → Stuck (plug_all Rs (unload_rest 0 e r (term_of x))) σ
 idle_rest e r x σ h Rs = subst (λ t. Stuck (plug_all Rs t) σ) (plug_context e r hole (term_of x)) (idle_under Rs (context_of e r hole) x σ h)
 
-past_none : (e : Env) (j : ℕ) → nth e j ≡ None → (i : ℕ) × (past 0 e j ≡ var i)
+past_none : (e : Env) (j : ℕ) → slice_get e j ≡ None → (i : ℕ) × (past 0 e j ≡ var i)
 past_none [] j h = (1 + j, refl)
 past_none (w ∷ e) zero h = (0, cc)
 past_none (w ∷ e) (suc j) h = past_none e j h
@@ -71,7 +70,7 @@ update_status : (n l : ℕ) (c : Code) (r : Rest) (e : Env) (rs : List Frame) (s
 update_status n l c r e rs s (Some f) h = moves (β updating) (full r e (Location n) rs) (with_method s n l (closure c e)) (β_update h)
 update_status n l c r e rs s None h = blocked (idle_rest e r (update_redex (Location n) l (unload_code 1 e c)) (unload_store s) (rw (method_none unload_closure s n l h))) (rw h)
 
-clone_status : (n : ℕ) (r : Rest) (e : Env) (rs : List Frame) (s : TreeStore) (o : Option (Object (Closure Code))) → nth s n ≡ o → Status (full (clone_op r) e (Location n) rs) s
+clone_status : (n : ℕ) (r : Rest) (e : Env) (rs : List Frame) (s : TreeStore) (o : Option (Object (Closure Code))) → slice_get s n ≡ o → Status (full (clone_op r) e (Location n) rs) s
 clone_status n r e rs s (Some o) h = moves (β cloning) (full r e (Location (length s)) rs) (s ++ (o ∷ [])) (β_clone h)
 clone_status n r e rs s None h = blocked (idle_rest e r (clone_redex (Location n)) (unload_store s) (rw (object_none unload_closure s n h))) (rw h)
 
@@ -86,7 +85,7 @@ status (full (select_op l r) e (Location n) rs) s = select_status n l r e rs s (
 status (full (update_op l c r) e (Figure k) rs) s = blocked (idle_rest e r (update_redex (Figure k) l (unload_code 1 e c)) (unload_store s) refl) refl
 status (full (update_op l c r) e (Location n) rs) s = update_status n l c r e rs s (method_at s n l) refl
 status (full (clone_op r) e (Figure k) rs) s = blocked (idle_rest e r (clone_redex (Figure k)) (unload_store s) refl) refl
-status (full (clone_op r) e (Location n) rs) s = clone_status n r e rs s (nth s n) refl
+status (full (clone_op r) e (Location n) rs) s = clone_status n r e rs s (slice_get s n) refl
 status (full (let_op c r) e v rs) s = moves (β letting) (empty c (v ∷ e) (closure r e ∷ rs)) s β_let
 
 -- a finished or blocked machine makes no transition

@@ -1,8 +1,7 @@
 -- The abstract machine on plain operation lists, with an accumulator that may be empty, which every rule tests.
-use Rattle.std.specs.Prelude.{◌≡◌, ℕ, List, [], ◌∷◌, ◌++◌, map, length, ℤ, pos, Some, None, Option, ◌≢◌}
+use Rattle.std.specs.Prelude.{slice_get, ◌≡◌, ℕ, List, [], ◌∷◌, ◌++◌, map, length, ℤ, pos, Some, None, Option, ◌≢◌}
 use Rattle.calculus.specs.declared.values.Value.{Value}
 use Rattle.calculus.specs.declared.values.Value.TheVariants.{Figure, Location}
-use Rattle.calculus.specs.Places.{nth}
 use Rattle.calculus.specs.Terms.{Term, var, val, object, select, update, clone, bind, Methods, nil, method}
 use Rattle.calculus.specs.Trees.{Code, access_op, figure_op, object_op, Rest, done, select_op, update_op, clone_op, let_op, Bodies, no_body, body}
 use Rattle.semantics.specs.Objects.{labelled, Object, Store, method_at, with_method, map_store}
@@ -74,7 +73,7 @@ pub data ListTransition : Label → ListState → ListStore → ListState → Li
       ListTransition (β selecting) (state (op (SELECT l) p) e (Some (Location n)) rs) s (state q (Location n ∷ e') None (closure p e ∷ rs)) s
   β_UPDATE : {l n : ℕ} {p q : Ops} {e : Env} {rs : List (Closure Ops)} {s : ListStore} {old : Closure Ops} → method_at s n l ≡ Some old →
       ListTransition (β updating) (state (op (UPDATE l q) p) e (Some (Location n)) rs) s (state p e (Some (Location n)) rs) (with_method s n l (closure q e))
-  β_CLONE : {n : ℕ} {p : Ops} {e : Env} {rs : List (Closure Ops)} {s : ListStore} {o : Object (Closure Ops)} → nth s n ≡ Some o →
+  β_CLONE : {n : ℕ} {p : Ops} {e : Env} {rs : List (Closure Ops)} {s : ListStore} {o : Object (Closure Ops)} → slice_get s n ≡ Some o →
       ListTransition (β cloning) (state (op CLONE p) e (Some (Location n)) rs) s (state p e (Some (Location (length s))) rs) (s ++ (o ∷ []))
   β_LET : {p q : Ops} {e : Env} {v : Value} {rs : List (Closure Ops)} {s : ListStore} →
       ListTransition (β letting) (state (op (LET q) p) e (Some v) rs) s (state q (v ∷ e) None (closure p e ∷ rs)) s

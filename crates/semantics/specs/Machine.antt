@@ -1,8 +1,8 @@
 -- The abstract machine on operation trees.
-use Rattle.std.specs.Prelude.{◌≡◌, ℕ, zero, suc, List, [], ◌∷◌, ◌++◌, length, ℤ, Some, None, Option}
+use Rattle.std.specs.Prelude.{slice_get, ◌≡◌, ℕ, zero, suc, List, [], ◌∷◌, ◌++◌, length, ℤ, Some, None, Option}
 use Rattle.calculus.specs.declared.values.Value.{Value}
 use Rattle.calculus.specs.declared.values.Value.TheVariants.{Figure, Location}
-use Rattle.calculus.specs.Places.{nth, if_some}
+use Rattle.calculus.specs.Places.{if_some}
 use Rattle.calculus.specs.Terms.{Term}
 use Rattle.calculus.specs.Trees.{Code, access_op, figure_op, object_op, Rest, done, select_op, update_op, clone_op, let_op, Bodies, no_body, body, trans}
 use Rattle.semantics.specs.Objects.{labelled, Object, Store, method_at, with_method}
@@ -16,7 +16,7 @@ Env = List Value
 -- the value of the variable j, from 1 on
 abbrev pub variable : Env → ℕ → Option Value
 variable e zero = None
-variable e (suc j) = nth e j
+variable e (suc j) = slice_get e j
 
 -- operations with the environment that they are to run in
 pub data Closure (C : Type 0) : Type 0 where
@@ -60,7 +60,7 @@ pub data Transition : Label → State → TreeStore → State → TreeStore → 
       Transition (β selecting) (full (select_op l r) e (Location n) rs) s (empty c (Location n ∷ e') (closure r e ∷ rs)) s
   β_update : {l n : ℕ} {c : Code} {r : Rest} {e : Env} {rs : List Frame} {s : TreeStore} {old : Closure Code} → method_at s n l ≡ Some old →
       Transition (β updating) (full (update_op l c r) e (Location n) rs) s (full r e (Location n) rs) (with_method s n l (closure c e))
-  β_clone : {n : ℕ} {r : Rest} {e : Env} {rs : List Frame} {s : TreeStore} {o : Object (Closure Code)} → nth s n ≡ Some o →
+  β_clone : {n : ℕ} {r : Rest} {e : Env} {rs : List Frame} {s : TreeStore} {o : Object (Closure Code)} → slice_get s n ≡ Some o →
       Transition (β cloning) (full (clone_op r) e (Location n) rs) s (full r e (Location (length s)) rs) (s ++ (o ∷ []))
   β_let : {c : Code} {r : Rest} {e : Env} {v : Value} {rs : List Frame} {s : TreeStore} →
       Transition (β letting) (full (let_op c r) e v rs) s (empty c (v ∷ e) (closure r e ∷ rs)) s
@@ -110,5 +110,5 @@ step (full (select_op l r) e (Location n) rs) s = if_some (method_at s n l) (λ 
 step (full (update_op l c r) e (Figure k) rs) s = blocks
 step (full (update_op l c r) e (Location n) rs) s = if_some (method_at s n l) (λ _. goes (β updating) (full r e (Location n) rs) (with_method s n l (closure c e))) blocks
 step (full (clone_op r) e (Figure k) rs) s = blocks
-step (full (clone_op r) e (Location n) rs) s = if_some (nth s n) (λ o. goes (β cloning) (full r e (Location (length s)) rs) (s ++ (o ∷ []))) blocks
+step (full (clone_op r) e (Location n) rs) s = if_some (slice_get s n) (λ o. goes (β cloning) (full r e (Location (length s)) rs) (s ++ (o ∷ []))) blocks
 step (full (let_op c r) e v rs) s = goes (β letting) (empty c (v ∷ e) (closure r e ∷ rs)) s

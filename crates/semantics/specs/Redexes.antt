@@ -1,8 +1,8 @@
 -- The point of execution of a term as a function, and what happens there.
-use Rattle.std.specs.Prelude.{◌≡◌, ℕ, [], ◌∷◌, ◌++◌, length}
+use Rattle.std.specs.Prelude.{slice_get, ◌≡◌, ℕ, [], ◌∷◌, ◌++◌, length}
 use Rattle.calculus.specs.declared.values.Value.{Value}
 use Rattle.calculus.specs.declared.values.Value.TheVariants.{Figure, Location}
-use Rattle.calculus.specs.Places.{nth, if_some}
+use Rattle.calculus.specs.Places.{if_some}
 use Rattle.calculus.specs.Terms.{Term, var, val, object, select, update, clone, bind, Methods, subst₁}
 use Rattle.semantics.specs.Objects.{Store, method_at, with_method}
 use Rattle.semantics.specs.Reduction.{Kind, making, selecting, updating, cloning, letting, Context, hole, select_in, update_in, clone_in, bind_in, plug, methods}
@@ -60,7 +60,7 @@ contract (select_redex (Location n) l) σ = if_some (method_at σ n l) (λ b. to
 contract (update_redex (Figure k) l b) σ = idle
 contract (update_redex (Location n) l b) σ = if_some (method_at σ n l) (λ _. to updating (val (Location n)) (with_method σ n l b)) idle
 contract (clone_redex (Figure k)) σ = idle
-contract (clone_redex (Location n)) σ = if_some (nth σ n) (λ o. to cloning (val (Location (length σ))) (σ ++ (o ∷ []))) idle
+contract (clone_redex (Location n)) σ = if_some (slice_get σ n) (λ o. to cloning (val (Location (length σ))) (σ ++ (o ∷ []))) idle
 contract (let_redex v b) σ = to letting (subst₁ v b) σ
 
 -- a reduction as it is found: the decomposition of the term, and what its redex contracts to

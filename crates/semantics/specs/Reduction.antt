@@ -1,8 +1,7 @@
 -- The calculus: reduction contexts, the five rules, and what is stuck.
-use Rattle.std.specs.Prelude.{◌≡◌, ℕ, ◌⊎◌, List, [], ◌∷◌, ◌++◌, length, ℤ, Some, None, ◌≢◌}
+use Rattle.std.specs.Prelude.{slice_get, ◌≡◌, ℕ, ◌⊎◌, List, [], ◌∷◌, ◌++◌, length, ℤ, Some, None, ◌≢◌}
 use Rattle.calculus.specs.declared.values.Value.{Value}
 use Rattle.calculus.specs.declared.values.Value.TheVariants.{Figure, Location}
-use Rattle.calculus.specs.Places.{nth}
 use Rattle.calculus.specs.Terms.{Term, val, object, select, update, clone, bind, Methods, nil, method, subst₁, Closed, Within}
 use Rattle.semantics.specs.Objects.{labelled, Object, Store, find, method_at, with_method, AllInStore}
 use Rattle.semantics.specs.Sequences.{Sequence}
@@ -38,7 +37,7 @@ pub data Rule : Kind → Term → Store Term → Term → Store Term → Type 0 
       Rule selecting (select (val (Location n)) l) σ (subst₁ (Location n) b) σ
   red_update : {σ : Store Term} {n l : ℕ} {b old : Term} → method_at σ n l ≡ Some old →
       Rule updating (update (val (Location n)) l b) σ (val (Location n)) (with_method σ n l b)
-  red_clone : {σ : Store Term} {n : ℕ} {o : Object Term} → nth σ n ≡ Some o →
+  red_clone : {σ : Store Term} {n : ℕ} {o : Object Term} → slice_get σ n ≡ Some o →
       Rule cloning (clone (val (Location n))) σ (val (Location (length σ))) (σ ++ (o ∷ []))
   red_let : {σ : Store Term} {v : Value} {b : Term} → Rule letting (bind (val v) b) σ (subst₁ v b) σ
 
@@ -73,8 +72,8 @@ pub data TakesFigure : Term → Type 0 where
 
 -- a label that the object lacks
 pub data LacksLabel (σ : Store Term) : Term → Type 0 where
-  select_missing : {n l : ℕ} {o : Object Term} → nth σ n ≡ Some o → find o l ≡ None → LacksLabel σ (select (val (Location n)) l)
-  update_missing : {n l : ℕ} {o : Object Term} {b : Term} → nth σ n ≡ Some o → find o l ≡ None → LacksLabel σ (update (val (Location n)) l b)
+  select_missing : {n l : ℕ} {o : Object Term} → slice_get σ n ≡ Some o → find o l ≡ None → LacksLabel σ (select (val (Location n)) l)
+  update_missing : {n l : ℕ} {o : Object Term} {b : Term} → slice_get σ n ≡ Some o → find o l ≡ None → LacksLabel σ (update (val (Location n)) l b)
 
 abbrev pub FigureTaken : Term → Type 0
 FigureTaken t = AtPoint TakesFigure t

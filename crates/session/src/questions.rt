@@ -1,6 +1,5 @@
 //! What can be asked of a session. No question changes anything.
-ghost use Rattle.std.specs.Prelude.{◌≡◌, ℕ, ◌≤◌, true, false, length, take, drop, IfOk, Some, MatchOption};
-ghost use Rattle.calculus.specs.Places.{nth};
+ghost use Rattle.std.specs.Prelude.{slice_get, ◌≡◌, ℕ, ◌≤◌, true, false, length, take, drop, IfOk, Some, MatchOption};
 ghost use Rattle.calculus.specs.Text.{text_of, used, rooms, within};
 ghost use Rattle.listing.specs.Areas.{told, lent_rooms};
 ghost use Rattle.listing.specs.Back.{answer};
@@ -63,7 +62,7 @@ impl<'a, S: Store> Session<'a, S> {
 
     /// The cell at a place, from 0, if it is used.
     pub fn cell(&self, place: usize) -> Option<Cell>
-        ensures { result ≡ nth (state_of self.now.machine).cells place }
+        ensures { result ≡ slice_get (state_of self.now.machine).cells place }
     {
         self.machine.cells.get(place)
     }

@@ -1,9 +1,9 @@
 -- The agreement over a compile.
-use Rattle.std.proofs.Common.{◌≡◌, ℕ, zero, suc, ◌+◌, Bool, true, false, cond, eqb, List, [], ◌∷◌, ◌++◌, length, Some, None, Err, Option, Result, sym, refl, ap, ◌∙◌, subst, subst₂, length-append, eqb-true}
+use Rattle.std.proofs.Common.{slice_get, ◌≡◌, ℕ, zero, suc, ◌+◌, Bool, true, false, cond, eqb, List, [], ◌∷◌, ◌++◌, length, Some, None, Err, Option, Result, sym, refl, ap, ◌∙◌, subst, subst₂, length-append, eqb-true}
 use mathlib.Core.Path.{subst₃}
 use borrow.Author.Tests.{eqb-false}
 use Rattle.calculus.specs.Layout.{contents_of, layout, lengths, compiled}
-use Rattle.calculus.specs.Places.{nth, if_some}
+use Rattle.calculus.specs.Places.{if_some}
 use Rattle.calculus.specs.Standing.{Program}
 use Rattle.calculus.specs.Terms.{Term, Static, Closed}
 use Rattle.calculus.specs.Text.{Text, joined}
@@ -37,13 +37,13 @@ use Rattle.session_laws.proofs.Trialing.{trial_tables}
 use Rattle.session_laws.proofs.Compiling.{fits_source, says}
 
 -- no program among the bodies
-no_mark : (p : ℕ) (ls : List (List Operation)) (n : ℕ) → if_some (nth (contents_of p ls) n) (λ e. main_mark e.mark) None ≡ None
+no_mark : (p : ℕ) (ls : List (List Operation)) (n : ℕ) → if_some (slice_get (contents_of p ls) n) (λ e. main_mark e.mark) None ≡ None
 no_mark p [] n = refl
 no_mark p (x ∷ ls) zero = refl
 no_mark p (x ∷ ls) (suc n) = no_mark (p + length x) ls n
 
-none_there : (xs : List ListEntry) (y : ListEntry) (p : ℕ) (ls : List (List Operation)) (n : ℕ) → (length xs ≡ n → ⊥) → if_some (nth xs n) (λ e. main_mark e.mark) None ≡ None →
-    if_some (nth (xs ++ (y ∷ contents_of p ls)) n) (λ e. main_mark e.mark) None ≡ None
+none_there : (xs : List ListEntry) (y : ListEntry) (p : ℕ) (ls : List (List Operation)) (n : ℕ) → (length xs ≡ n → ⊥) → if_some (slice_get xs n) (λ e. main_mark e.mark) None ≡ None →
+    if_some (slice_get (xs ++ (y ∷ contents_of p ls)) n) (λ e. main_mark e.mark) None ≡ None
 none_there [] y p ls zero h g = absurd (h refl)
 none_there [] y p ls (suc n) h g = no_mark p ls n
 none_there (x ∷ xs) y p ls zero h g = g

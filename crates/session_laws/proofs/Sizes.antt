@@ -1,7 +1,6 @@
 -- Lengths and sizes on both sides.
-use Rattle.std.proofs.Common.{◌≡◌, ℕ, zero, suc, ◌+◌, List, [], ◌∷◌, ◌++◌, map, length, set, Some, sym, refl, ap, ◌∙◌, ap₂, arith, length-set}
+use Rattle.std.proofs.Common.{slice_get, ◌≡◌, ℕ, zero, suc, ◌+◌, List, [], ◌∷◌, ◌++◌, map, length, set, Some, sym, refl, ap, ◌∙◌, ap₂, arith, length-set}
 use lib.ListN.{length-map}
-use Rattle.calculus.specs.Places.{nth}
 use Rattle.calculus.specs.Text.{Text}
 use Rattle.calculus.specs.Trees.{Code}
 use Rattle.store.specs.declared.closures.Closure.{Closure}
@@ -48,13 +47,13 @@ pub total_push : (os : List Object) (o : Object) → total (os ++ (o ∷ [])) �
 total_push [] o = omega arith
 total_push (p ∷ os) o = omega (arith, total_push os o)
 
-total_set : (os : List Object) (n : ℕ) (o q : Object) → nth os n ≡ Some o → length q ≡ length o → total (set os n q) ≡ total os
+total_set : (os : List Object) (n : ℕ) (o q : Object) → slice_get os n ≡ Some o → length q ≡ length o → total (set os n q) ≡ total os
 total_set [] n o q h g = refl
 total_set (x ∷ os) zero o q h g = let z : x ≡ o = cc in ap (λ k. k + total os) (g ∙ ap length (sym z))
 total_set (x ∷ os) (suc n) o q h g = ap (λ k. length x + k) (total_set os n o q h g)
 
 -- an update of a method that is there
-module _ (os : List Object) (l p : ℕ) (c : Closure) (o : Object) (x : Method) (h : nth os l ≡ Some o) (k : nth o p ≡ Some x) where
+module _ (os : List Object) (l p : ℕ) (c : Closure) (o : Object) (x : Method) (h : slice_get os l ≡ Some o) (k : slice_get o p ≡ Some x) where
   pub put_is : put_closure os l p c ≡ set os l (set o p (with_closure x c))
   put_is = cc
 

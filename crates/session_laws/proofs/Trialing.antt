@@ -1,6 +1,5 @@
 -- What stands for the reference's trial, as cells, tables, objects and updates come.
-use Rattle.std.proofs.Common.{◌≡◌, ℕ, suc, ◌+◌, ◌≤◌, Bool, true, false, cond, ltb, List, [], ◌∷◌, ◌++◌, map, length, set, Some, sym, refl, ap, ◌∙◌, subst, subst₂, arith, length-append, length-set, ltb-false, ltb-true}
-use Rattle.calculus.specs.Places.{nth}
+use Rattle.std.proofs.Common.{slice_get, ◌≡◌, ℕ, suc, ◌+◌, ◌≤◌, Bool, true, false, cond, ltb, List, [], ◌∷◌, ◌++◌, map, length, set, Some, sym, refl, ap, ◌∙◌, subst, subst₂, arith, length-append, length-set, ltb-false, ltb-true}
 use Rattle.calculus.specs.Terms.{Term}
 use Rattle.calculus.specs.Text.{Text, joined}
 use Rattle.calculus.specs.Trees.{Code}
@@ -71,7 +70,7 @@ newest_last [] x = refl
 newest_last (y ∷ []) x = refl
 newest_last (y ∷ (z ∷ σ)) x = newest_last (z ∷ σ) x
 
-nth_end : (σ : Store Term) (x : objects.Object Term) → nth (σ ++ (x ∷ [])) (length σ) ≡ Some x
+nth_end : (σ : Store Term) (x : objects.Object Term) → slice_get (σ ++ (x ∷ [])) (length σ) ≡ Some x
 nth_end [] x = refl
 nth_end (y ∷ σ) x = nth_end σ x
 
@@ -133,7 +132,7 @@ module _ (T : Text) (cells : List Cell) (os : List Object) (s : TreeStore) (o : 
   trial_adds (overrun n) (on_trial n' σ₂ u) letting a h = absurd a
 
 -- an update alters the first list only, and the book has a note more
-module _ (T : Text) (cells : List Cell) (os : List Object) (l p : ℕ) (c : Closure) (o : Object) (x : Method) (ho : Some o ≡ nth os l) (hx : Some x ≡ nth o p)
+module _ (T : Text) (cells : List Cell) (os : List Object) (l p : ℕ) (c : Closure) (o : Object) (x : Method) (ho : Some o ≡ slice_get os l) (hx : Some x ≡ slice_get o p)
     (σ σ' : Store Term) (same_length : length σ' ≡ length σ) (same_size : sizes σ' ≡ sizes σ) where
   abbrev note : OldMethod
   note = record { location = l; place = p; closure = x.closure }

@@ -50,8 +50,6 @@ impl fmt::Display for ValueText {
 }
 
 /// The law of signs: a row or a value that is written is read again.
-pub fn signs_read_again() -> u8
+pub fn signs_read_again()
     ensures { ReadAgain }
-{
-    0
-}
+{}

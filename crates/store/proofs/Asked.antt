@@ -1,29 +1,29 @@
 -- What an answer of the areas says.
-use Rattle.std.proofs.Common.{◌≡◌, ℕ, ◌+◌, ◌<◌, ◌≤◌, Bool, true, false, cond, ltb, leb, List, length, get_or, take, Some, None, Ok, Err, Option, sym, refl, ◌∙◌, arith, length-take-le, get_or-take, ltb-true}
+use Rattle.std.proofs.Common.{slice_get, ◌≡◌, ℕ, ◌+◌, ◌<◌, ◌≤◌, Bool, true, false, cond, ltb, leb, List, length, get_or, take, Some, None, Ok, Err, Option, refl, ◌∙◌, arith, length-take-le, get_or-take, ltb-true}
 use Rattle.std.proofs.lemmas.Bool.{leb-true}
-use Rattle.calculus.specs.Places.{nth, if_some}
-use Rattle.calculus.proofs.Places.{nth_in}
+use Rattle.std.proofs.lemmas.Option.{slice_get_within, get_or_from_slice_get}
+use Rattle.calculus.specs.Places.{if_some}
 use Rattle.store.specs.declared.areas.Areas.{Areas}
 use Rattle.store.specs.declared.faults.StoreFault.{StoreFault}
 use Rattle.store.specs.declared.faults.StoreFault.TheVariants.{ObjectsFull, MethodsFull, NoLocation}
 use Rattle.store.specs.Areas.{entry_of, room_in}
-use Rattle.store.proofs.Nth.{nth_some, nth_none}
+use Rattle.store.proofs.Nth.{nth_none}
 
 module _ {E : Type 0} (d : E) (es : List E) (n : ℕ) (fits : n ≤ length es) (l : ℕ) where
   long : length (take n es) ≡ n
   long = length-take-le n es fits
 
-  there : (e : E) (x : Option E) → x ≡ nth (take n es) l → Ok e ≡ if_some x (λ y. Ok y) (Err NoLocation) → (l < n) × (e ≡ get_or es l d)
+  there : (e : E) (x : Option E) → slice_get (take n es) l ≡ x → Ok e ≡ if_some x (λ y. Ok y) (Err NoLocation) → (l < n) × (e ≡ get_or es l d)
   there e None h k = let z : ◌≡◌ {A = ℕ} 0 1 = cc in absurd (omega arith)
   there e (Some y) h k =
-      let low : l < n = omega (arith, long, nth_some (take n es) l y (sym h)) in
-      let is = nth_in (take n es) l d (omega (arith, long)) in
+      let low : l < n = omega (arith, long, slice_get_within (take n es) l y h) in
+      let is : get_or (take n es) l d ≡ y = get_or_from_slice_get (take n es) l y d h in
       let same : e ≡ get_or (take n es) l d = cc in
       (low, same ∙ get_or-take n es l d low)
 
-  nowhere : (f : StoreFault) (x : Option E) → x ≡ nth (take n es) l → Err f ≡ if_some x (λ y. Ok y) (Err NoLocation) → (f ≡ NoLocation) × (n ≤ l)
+  nowhere : (f : StoreFault) (x : Option E) → slice_get (take n es) l ≡ x → Err f ≡ if_some x (λ y. Ok y) (Err NoLocation) → (f ≡ NoLocation) × (n ≤ l)
   nowhere f (Some y) h k = let z : ◌≡◌ {A = ℕ} 0 1 = cc in absurd (omega arith)
-  nowhere f None h k = (cc, omega (arith, long, nth_none (take n es) l (sym h)))
+  nowhere f None h k = (cc, omega (arith, long, nth_none (take n es) l h))
 
 module _ {E : Type 0} (s : Areas E) where
   fits : s.object_count ≤ length s.objects.now

@@ -1,38 +1,37 @@
 -- What stands at a place after a write, and after one entry more.
-use Rattle.std.proofs.Common.{◌≡◌, ℕ, zero, suc, ◌<◌, ◌≤◌, ◌≢◌, List, [], ◌∷◌, ◌++◌, length, set, Some, None, Option, sym, refl, ap, arith}
-use Rattle.calculus.specs.Places.{nth}
+use Rattle.std.proofs.Common.{slice_get, ◌≡◌, ℕ, zero, suc, ◌<◌, ◌≤◌, ◌≢◌, List, [], ◌∷◌, ◌++◌, length, set, Some, None, Option, sym, refl, ap, arith}
 
 module _ {X : Type 0} where
   pub some_none : (x : X) → ◌≡◌ {A = Option X} (Some x) None → ⊥
   some_none x h = let z : ◌≡◌ {A = ℕ} 0 1 = cc in absurd (omega arith)
 
-  pub nth_some : (xs : List X) (i : ℕ) (x : X) → nth xs i ≡ Some x → i < length xs
+  pub nth_some : (xs : List X) (i : ℕ) (x : X) → slice_get xs i ≡ Some x → i < length xs
   nth_some [] i x h = absurd (some_none x (sym h))
   nth_some (y ∷ xs) zero x h = omega arith
   nth_some (y ∷ xs) (suc i) x h = let r = nth_some xs i x h in omega arith
 
-  pub nth_none : (xs : List X) (i : ℕ) → nth xs i ≡ None → length xs ≤ i
+  pub nth_none : (xs : List X) (i : ℕ) → slice_get xs i ≡ None → length xs ≤ i
   nth_none [] i h = omega arith
   nth_none (y ∷ xs) zero h = absurd (some_none y h)
   nth_none (y ∷ xs) (suc i) h = let r = nth_none xs i h in omega arith
 
-  pub nth_set : (xs : List X) (i : ℕ) (x y : X) → nth xs i ≡ Some x → nth (set xs i y) i ≡ Some y
+  pub nth_set : (xs : List X) (i : ℕ) (x y : X) → slice_get xs i ≡ Some x → slice_get (set xs i y) i ≡ Some y
   nth_set [] i x y h = absurd (some_none x (sym h))
   nth_set (z ∷ xs) zero x y h = refl
   nth_set (z ∷ xs) (suc i) x y h = nth_set xs i x y h
 
-  pub nth_set_other : (xs : List X) (i j : ℕ) (y : X) → j ≢ i → nth (set xs i y) j ≡ nth xs j
+  pub nth_set_other : (xs : List X) (i j : ℕ) (y : X) → j ≢ i → slice_get (set xs i y) j ≡ slice_get xs j
   nth_set_other [] i j y h = refl
   nth_set_other (z ∷ xs) zero zero y h = absurd (h refl)
   nth_set_other (z ∷ xs) zero (suc j) y h = refl
   nth_set_other (z ∷ xs) (suc i) zero y h = refl
   nth_set_other (z ∷ xs) (suc i) (suc j) y h = nth_set_other xs i j y (λ e. h (ap suc e))
 
-  pub nth_append : (xs ys : List X) (i : ℕ) → i < length xs → nth (xs ++ ys) i ≡ nth xs i
+  pub nth_append : (xs ys : List X) (i : ℕ) → i < length xs → slice_get (xs ++ ys) i ≡ slice_get xs i
   nth_append [] ys i h = absurd (omega arith)
   nth_append (x ∷ xs) ys zero h = refl
   nth_append (x ∷ xs) ys (suc i) h = nth_append xs ys i (omega arith)
 
-  pub nth_push : (xs : List X) (y : X) → nth (xs ++ y ∷ []) (length xs) ≡ Some y
+  pub nth_push : (xs : List X) (y : X) → slice_get (xs ++ y ∷ []) (length xs) ≡ Some y
   nth_push [] y = refl
   nth_push (x ∷ xs) y = nth_push xs y

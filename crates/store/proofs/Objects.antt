@@ -1,11 +1,10 @@
 -- The objects of a store, by the spans of its entries. An entry has the span that is reserved for its object (`own`) and the one where
 -- its methods stand (`span`); in a flat store the two are one.
-use Rattle.std.proofs.Common.{◌≡◌, ℕ, suc, ◌+◌, ◌<◌, ◌≤◌, true, ◌≢◌, ◌⊎◌, List, [], ◌∷◌, ◌++◌, map, length, get_or, take, set, Some, None, sym, refl, ap, ◌∙◌, subst, ⊎_elim, arith, length-set, length-take-le, get_or-set_other, get_or-take, get_or-set_same}
+use Rattle.std.proofs.Common.{slice_get, ◌≡◌, ℕ, suc, ◌+◌, ◌<◌, ◌≤◌, true, ◌≢◌, ◌⊎◌, List, [], ◌∷◌, ◌++◌, map, length, get_or, take, set, Some, None, sym, refl, ap, ◌∙◌, subst, ⊎_elim, arith, length-set, length-take-le, get_or-set_other, get_or-take, get_or-set_same}
 use Rattle.std.proofs.lemmas.List.{get_or-map, length-map, ext_get_or, take_more, map_push}
 use Rattle.std.proofs.lemmas.Bool.{cases_eq}
 use Rattle.std.proofs.lemmas.Bool.Decides.{nat_tests}
-use Rattle.calculus.specs.Places.{nth}
-use Rattle.calculus.proofs.Places.{nth_in, nth_past}
+use Rattle.std.proofs.lemmas.Option.{slice_get_past, slice_get-get_or}
 use Rattle.store.specs.declared.closures.Method.{Method}
 use Rattle.store.specs.declared.layout.Span.{Span}
 use Rattle.store.specs.Layout.{part, laid, objects_in}
@@ -37,11 +36,11 @@ module _ {E : Type 0} (no : E) where
       pub get_d_in : (d : B) (k : ℕ) → k < n → get_or (map f (take n es)) k d ≡ f (at es k)
       get_d_in d k lt = get_or-map f (take n es) k no d (omega (arith, length-take-le n es fits)) ∙ ap f (get_or-take n es k no lt)
 
-      pub is_there : (k : ℕ) → k < n → Some (f (at es k)) ≡ nth (map f (take n es)) k
-      is_there k lt = ap Some (sym (get_d_in (f no) k lt)) ∙ nth_in (map f (take n es)) k (f no) (omega (arith, length_in))
+      pub is_there : (k : ℕ) → k < n → Some (f (at es k)) ≡ slice_get (map f (take n es)) k
+      is_there k lt = ap Some (sym (get_d_in (f no) k lt)) ∙ sym (slice_get-get_or (map f (take n es)) k (f no) (omega (arith, length_in)))
 
-      pub not_there : (k : ℕ) → n ≤ k → None ≡ nth (map f (take n es)) k
-      not_there k le = nth_past (map f (take n es)) k (omega (arith, length_in))
+      pub not_there : (k : ℕ) → n ≤ k → None ≡ slice_get (map f (take n es)) k
+      not_there k le = sym (slice_get_past (map f (take n es)) k (omega (arith, length_in)))
 
     -- the spans that are reserved follow one another
     module _ (own : E → Span) (end : ℕ) (ok : laid 0 (map own (take n es)) end ≡ true) where

@@ -1,6 +1,6 @@
 -- From what a store's entries say of its meaning, what each call is to answer and to leave.
-use Rattle.std.proofs.Common.{◌≡◌, ℕ, ◌+◌, ◌<◌, ◌≤◌, cond, ltb, leb, List, [], ◌∷◌, ◌++◌, length, set, Some, None, Ok, Err, Option, Result, sym, refl, ap, ◌∙◌, arith}
-use Rattle.calculus.specs.Places.{nth, if_some}
+use Rattle.std.proofs.Common.{slice_get, ◌≡◌, ℕ, ◌+◌, ◌<◌, ◌≤◌, cond, ltb, leb, List, [], ◌∷◌, ◌++◌, length, set, Some, None, Ok, Err, Option, Result, sym, refl, ap, ◌∙◌, arith}
+use Rattle.calculus.specs.Places.{if_some}
 use Rattle.calculus.specs.declared.code.MethodEntry.{MethodEntry}
 use Rattle.store.specs.declared.closures.Closure.{Closure}
 use Rattle.store.specs.declared.closures.Method.{Method}
@@ -20,8 +20,8 @@ pub record Tells (m : Meaning) (n used : ℕ) (span : ℕ → Span) (ms : List M
   pub is_plain : m.trial ≡ no_trial
   pub count_is : length m.objects ≡ n
   pub total_is : total m.objects ≡ used
-  pub object_at : (l : ℕ) → l < n → Some (part ms (span l)) ≡ nth m.objects l
-  pub none_at : (l : ℕ) → n ≤ l → None ≡ nth m.objects l
+  pub object_at : (l : ℕ) → l < n → Some (part ms (span l)) ≡ slice_get m.objects l
+  pub none_at : (l : ℕ) → n ≤ l → None ≡ slice_get m.objects l
   pub within : (l : ℕ) → l < n → (span l).first + (span l).size ≤ used
   pub fits : used ≤ length ms
 
@@ -73,7 +73,7 @@ module _ (m : Meaning) (n used : ℕ) (span : ℕ → Span) (ms : List Method) (
 
     -- another closure at a place, where a write there is one to the object alone
     module _ (p : ℕ) (c : Closure) (objects : List Method → List (List Method)) (now : objects ms ≡ m.objects) (one : p < (span l).size → (v : Method) → objects (set ms ((span l).first + p) v) ≡ set m.objects l (set (part ms (span l)) p v)) where
-      by_method : (x : Option Method) → x ≡ nth (part ms (span l)) p → with_objects m (objects (if_some x (λ y. set ms ((span l).first + p) (with_closure y c)) ms)) ≡ updated m l p c
+      by_method : (x : Option Method) → x ≡ slice_get (part ms (span l)) p → with_objects m (objects (if_some x (λ y. set ms ((span l).first + p) (with_closure y c)) ms)) ≡ updated m l p c
       by_method None h = ap (with_objects m) now ∙ no_update_here m l p c _ (t.object_at l lt) h
       by_method (Some x) h =
           let old : OldMethod = record { location = l; place = p; closure = x.closure } in
@@ -83,7 +83,7 @@ module _ (m : Meaning) (n used : ℕ) (span : ℕ → Span) (ms : List Method) (
           ∙ updates m l p c _ (t.object_at l lt) x h
 
       pub updated_is : with_objects m (objects (closure_put ms (span l) p c)) ≡ updated m l p c
-      updated_is = by_method (nth (part ms (span l)) p) refl
+      updated_is = by_method (slice_get (part ms (span l)) p) refl
 
     -- past the object's methods
     module _ (p : ℕ) (le : (span l).size ≤ p) where

@@ -1,6 +1,6 @@
 -- What the two areas of a store hold, and how a call changes them.
-use Rattle.std.specs.Prelude.{◌≡◌, ℕ, ◌+◌, cond, List, take, Ok, Err, Result, nat_le, nat_lt, slice_set}
-use Rattle.calculus.specs.Places.{nth, if_some}
+use Rattle.std.specs.Prelude.{slice_get, ◌≡◌, ℕ, ◌+◌, cond, List, take, Ok, Err, Result, nat_le, nat_lt, slice_set}
+use Rattle.calculus.specs.Places.{if_some}
 use Rattle.store.specs.declared.areas.Areas.{Areas}
 use Rattle.store.specs.declared.closures.Closure.{Closure}
 use Rattle.store.specs.declared.closures.Method.{Method}
@@ -11,19 +11,19 @@ use Rattle.store.specs.Layout.{part}
 use Rattle.store.specs.Meaning.{Object, with_closure}
 
 abbrev pub method_of_span : Object → ℕ → Result Method StoreFault
-method_of_span o p = if_some (nth o p) (λ x. Ok x) (Err NoPlace)
+method_of_span o p = if_some (slice_get o p) (λ x. Ok x) (Err NoPlace)
 
 -- the answer to the wish for another closure at a place
 abbrev pub closure_answer : Object → ℕ → Result Unit StoreFault
-closure_answer o p = if_some (nth o p) (λ x. Ok tt) (Err NoPlace)
+closure_answer o p = if_some (slice_get o p) (λ x. Ok tt) (Err NoPlace)
 
 -- the methods with another closure at a place of a span, where there is one
 abbrev pub closure_put : List Method → Span → ℕ → Closure → List Method
-closure_put ms s p c = if_some (nth (part ms s) p) (λ x. slice_set ms (s.first + p) (with_closure x c)) ms
+closure_put ms s p c = if_some (slice_get (part ms s) p) (λ x. slice_set ms (s.first + p) (with_closure x c)) ms
 
 module _ {E : Type 0} where
   abbrev pub entry_of : Areas E → ℕ → Result E StoreFault
-  entry_of s l = if_some (nth (take s.object_count s.objects.now) l) (λ e. Ok e) (Err NoLocation)
+  entry_of s l = if_some (slice_get (take s.object_count s.objects.now) l) (λ e. Ok e) (Err NoLocation)
 
   -- the location of one object more, of n methods
   abbrev pub room_in : Areas E → ℕ → Result ℕ StoreFault

@@ -1,6 +1,6 @@
 -- What a store means, and what each call answers and leaves, by the meaning before it.
-use Rattle.std.specs.Prelude.{ℕ, ◌+◌, cond, List, [], ◌∷◌, ◌++◌, map, length, Some, None, Ok, Err, Option, Result, ◌==◌, nat_le, nat_lt, slice_set}
-use Rattle.calculus.specs.Places.{nth, if_some}
+use Rattle.std.specs.Prelude.{slice_get, ℕ, ◌+◌, cond, List, [], ◌∷◌, ◌++◌, map, length, Some, None, Ok, Err, Option, Result, ◌==◌, nat_le, nat_lt, slice_set}
+use Rattle.calculus.specs.Places.{if_some}
 use Rattle.calculus.specs.declared.code.MethodEntry.{MethodEntry}
 use Rattle.store.specs.declared.closures.Closure.{Closure}
 use Rattle.store.specs.declared.closures.Method.{Method}
@@ -39,11 +39,11 @@ total (o ∷ os) = length o + total os
 module _ {A : Type 0} where
   -- what is said of the object at a location
   abbrev pub at_location : Meaning → ℕ → (Object → Result A StoreFault) → Result A StoreFault
-  at_location m l f = if_some (nth m.objects l) f (Err NoLocation)
+  at_location m l f = if_some (slice_get m.objects l) f (Err NoLocation)
 
   -- what is said of the method at a place of the object at a location
   abbrev pub at_place : Meaning → ℕ → ℕ → (Method → Result A StoreFault) → Result A StoreFault
-  at_place m l p f = at_location m l (λ o. if_some (nth o p) f (Err NoPlace))
+  at_place m l p f = at_location m l (λ o. if_some (slice_get o p) f (Err NoPlace))
 
 abbrev pub size_of : Meaning → ℕ → Result ℕ StoreFault
 size_of m l = at_location m l (λ o. Ok (length o))
@@ -90,18 +90,18 @@ abbrev pub clone_result : Meaning → ℕ → Result ℕ StoreFault
 clone_result m l = at_location m l (λ o. room_for m (length o))
 
 abbrev pub cloned_by : Meaning → ℕ → Meaning
-cloned_by m l = with_objects m (if_some (nth m.objects l) (λ o. added (room_for m (length o)) o m.objects) m.objects)
+cloned_by m l = with_objects m (if_some (slice_get m.objects l) (λ o. added (room_for m (length o)) o m.objects) m.objects)
 
 abbrev pub with_closure : Method → Closure → Method
 with_closure x c = record { label = x.label; closure = c }
 
 -- the closure at a place replaced, where there is one
 abbrev pub put_closure : List Object → ℕ → ℕ → Closure → List Object
-put_closure os l p c = if_some (nth os l) (λ o. if_some (nth o p) (λ x. slice_set os l (slice_set o p (with_closure x c))) os) os
+put_closure os l p c = if_some (slice_get os l) (λ o. if_some (slice_get o p) (λ x. slice_set os l (slice_set o p (with_closure x c))) os) os
 
 -- what an update there would note
 abbrev pub old_at : List Object → ℕ → ℕ → Option OldMethod
-old_at os l p = if_some (nth os l) (λ o. if_some (nth o p) (λ x. Some (record { location = l; place = p; closure = x.closure })) None) None
+old_at os l p = if_some (slice_get os l) (λ o. if_some (slice_get o p) (λ x. Some (record { location = l; place = p; closure = x.closure })) None) None
 
 -- a book counts no more old methods than this
 abbrev pub book_room : ℕ

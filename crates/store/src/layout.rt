@@ -1,13 +1,12 @@
 //! What the kinds of store share: the limit that an area sets, and where an object's methods stand in it.
-ghost use Rattle.std.specs.Prelude.{◌≡◌};
+ghost use Rattle.std.specs.Prelude.{slice_get, ◌≡◌};
 ghost use Rattle.calculus.specs.Held.{counted};
-ghost use Rattle.calculus.specs.Places.{nth};
 ghost use Rattle.store.specs.Layout.{part};
 ghost use Rattle.store.specs.Meaning.{place_from};
 
 use crate::closures::Method;
 use calculus::lookup::entry_at;
-use calculus::stack::MOST_ENTRIES;
+use calculus::stack::counted_len;
 
 /// A stretch of a method area: its first entry, and how many there are.
 #[derive(Clone, Copy)]
@@ -20,16 +19,12 @@ pub struct Span {
 pub fn limit(len: usize) -> u32
     ensures { result ≡ counted len }
 {
-    if len < MOST_ENTRIES {
-        len as u32
-    } else {
-        MOST_ENTRIES as u32
-    }
+    counted_len(len)
 }
 
 /// The method at a place, from 0, in a stretch of the methods.
 pub fn method_in(methods: &[Method], span: Span, place: u32) -> Option<Method>
-    ensures { result ≡ nth (part methods.now span) place }
+    ensures { result ≡ slice_get (part methods.now span) place }
 {
     if place >= span.size {
         return None;

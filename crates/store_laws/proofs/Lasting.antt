@@ -1,8 +1,8 @@
 -- What no list of calls takes away, and that the trial does not matter to the answers.
-use Rattle.std.proofs.Common.{◌≡◌, ℕ, zero, suc, ◌+◌, Bool, true, false, cond, ltb, leb, List, [], ◌∷◌, ◌++◌, map, length, set, Some, None, Ok, Err, Option, sym, refl, ap, ◌∙◌, subst, append_assoc, append-nil, arith, ltb-true}
+use Rattle.std.proofs.Common.{slice_get, ◌≡◌, ℕ, zero, suc, ◌+◌, Bool, true, false, cond, ltb, leb, List, [], ◌∷◌, ◌++◌, map, length, set, Some, None, Ok, Err, Option, sym, refl, ap, ◌∙◌, subst, append_assoc, append-nil, arith, ltb-true}
 use Rattle.std.proofs.lemmas.List.{length-map, length_push, map_push}
 use Rattle.std.proofs.lemmas.Bool.{leb-true}
-use Rattle.calculus.specs.Places.{nth, if_some}
+use Rattle.calculus.specs.Places.{if_some}
 use Rattle.calculus.specs.declared.code.MethodEntry.{MethodEntry}
 use Rattle.store.specs.declared.closures.Closure.{Closure}
 use Rattle.store.specs.declared.closures.Method.{Method}
@@ -58,23 +58,23 @@ cloning m (Some o) = adding m o
 cloning m None = lasts_same m
 
 -- a closure replaced leaves every label
-relabelled : (o : Object) (p : ℕ) (x : Method) (c : Closure) → nth o p ≡ Some x → labels (set o p (with_closure x c)) ≡ labels o
+relabelled : (o : Object) (p : ℕ) (x : Method) (c : Closure) → slice_get o p ≡ Some x → labels (set o p (with_closure x c)) ≡ labels o
 relabelled [] p x c h = refl
 relabelled (y ∷ o) zero x c h = let e : y ≡ x = cc in ap (λ z. z.label ∷ labels o) (sym e)
 relabelled (y ∷ o) (suc p) x c h = ap (λ xs. y.label ∷ xs) (relabelled o p x c h)
 
-replaced : (os : List Object) (l : ℕ) (o o' : Object) → nth os l ≡ Some o → labels o' ≡ labels o → map labels (set os l o') ≡ map labels os
+replaced : (os : List Object) (l : ℕ) (o o' : Object) → slice_get os l ≡ Some o → labels o' ≡ labels o → map labels (set os l o') ≡ map labels os
 replaced [] l o o' h e = refl
 replaced (x ∷ os) zero o o' h e = let q : x ≡ o = cc in ap (λ xs. xs ∷ map labels os) (e ∙ ap labels (sym q))
 replaced (x ∷ os) (suc l) o o' h e = ap (λ xs. labels x ∷ xs) (replaced os l o o' h e)
 
-puts_here : (os : List Object) (l p : ℕ) (c : Closure) (o : Object) (x : Option Method) → nth os l ≡ Some o → nth o p ≡ x → map labels (if_some x (λ y. set os l (set o p (with_closure y c))) os) ≡ map labels os
+puts_here : (os : List Object) (l p : ℕ) (c : Closure) (o : Object) (x : Option Method) → slice_get os l ≡ Some o → slice_get o p ≡ x → map labels (if_some x (λ y. set os l (set o p (with_closure y c))) os) ≡ map labels os
 puts_here os l p c o None h k = refl
 puts_here os l p c o (Some y) h k = replaced os l o _ h (relabelled o p y c k)
 
-puts : (os : List Object) (l p : ℕ) (c : Closure) (x : Option Object) → nth os l ≡ x → map labels (if_some x (λ o. if_some (nth o p) (λ y. set os l (set o p (with_closure y c))) os) os) ≡ map labels os
+puts : (os : List Object) (l p : ℕ) (c : Closure) (x : Option Object) → slice_get os l ≡ x → map labels (if_some x (λ o. if_some (slice_get o p) (λ y. set os l (set o p (with_closure y c))) os) os) ≡ map labels os
 puts os l p c None h = refl
-puts os l p c (Some o) h = puts_here os l p c o (nth o p) h refl
+puts os l p c (Some o) h = puts_here os l p c o (slice_get o p) h refl
 
 abbrev sizes : List (List ℕ) → ℕ
 sizes [] = 0
@@ -90,7 +90,7 @@ unnoted t (Some old) h = ap (noted old) h
 
 updating : (m : Meaning) (l p : ℕ) (c : Closure) → Lasts m (updated m l p c)
 updating m l p c =
-    let same = puts m.objects l p c (nth m.objects l) refl in
+    let same = puts m.objects l p c (slice_get m.objects l) refl in
     let os' = put_closure m.objects l p c in
     let count : length os' ≡ length m.objects = sym (length-map os' labels) ∙ ap length same ∙ length-map m.objects labels in
     let size : total os' ≡ total m.objects = total_labels os' ∙ ap sizes same ∙ sym (total_labels m.objects) in
@@ -115,7 +115,7 @@ module _ (table : List MethodEntry) where
       let es = entries_at table f n in
       let e : length (methods_of es env) ≡ length es = length-map es (method_of env) in
       subst (λ k. Lasts m (with_objects m (added (room_for m k) (methods_of es env) m.objects))) e (adding m (methods_of es env))
-  one_lasts m (Clone l) = cloning m (nth m.objects l)
+  one_lasts m (Clone l) = cloning m (slice_get m.objects l)
   one_lasts m (Update l p c) = updating m l p c
 
   pub all_last : (m : Meaning) (cs : List StoreCall) → Lasts m (meaning_after_all table m cs)

@@ -1,6 +1,5 @@
 -- The laws of a store's meaning, in terms of what the calls answer.
-use Rattle.std.specs.Prelude.{◌≡◌, ℕ, ◌+◌, ◌<◌, ◌≤◌, Bool, false, ◌&&◌, ◌||◌, List, [], ◌∷◌, ◌++◌, length, Some, None, Ok, Err, ◌==◌}
-use Rattle.calculus.specs.Places.{nth}
+use Rattle.std.specs.Prelude.{slice_get, ◌≡◌, ℕ, ◌+◌, ◌<◌, ◌≤◌, Bool, false, ◌&&◌, ◌||◌, List, [], ◌∷◌, ◌++◌, length, Some, None, Ok, Err, ◌==◌}
 use Rattle.calculus.specs.declared.code.MethodEntry.{MethodEntry}
 use Rattle.store.specs.declared.closures.Closure.{Closure}
 use Rattle.store.specs.declared.closures.Method.{Method}
@@ -29,7 +28,7 @@ MakesLast = (m : Meaning) (es : List MethodEntry) (env k : ℕ) → make_result 
 -- clone puts a copy of the object behind the others, which stay
 abbrev pub CopiesLast : Type 0
 CopiesLast = (m : Meaning) (l k : ℕ) → clone_result m l ≡ Ok k →
-    (k ≡ length m.objects) × ((o : Object) × (nth m.objects l ≡ Some o) × ((cloned_by m l).objects ≡ m.objects ++ o ∷ []))
+    (k ≡ length m.objects) × ((o : Object) × (slice_get m.objects l ≡ Some o) × ((cloned_by m l).objects ≡ m.objects ++ o ∷ []))
 
 -- update replaces the closure at its place, under the label that stands there, and changes no other method and no size
 abbrev pub UpdatesOne : Type 0
@@ -41,8 +40,8 @@ UpdatesOne = (m : Meaning) (l p : ℕ) (c : Closure) →
 -- an update of a clone leaves what it copies as it was, and an update of that leaves the clone
 abbrev pub ClonesApart : Type 0
 ClonesApart = (m : Meaning) (l k p : ℕ) (c : Closure) → clone_result m l ≡ Ok k →
-    (nth (updated (cloned_by m l) k p c).objects l ≡ nth m.objects l)
-    × (nth (updated (cloned_by m l) l p c).objects k ≡ nth m.objects l)
+    (slice_get (updated (cloned_by m l) k p c).objects l ≡ slice_get m.objects l)
+    × (slice_get (updated (cloned_by m l) l p c).objects k ≡ slice_get m.objects l)
 
 -- make is refused exactly when the objects have reached their limit, or else when the methods would pass theirs
 abbrev pub MakesInRoom : Type 0

@@ -1,8 +1,8 @@
 -- What one call of a store does to an open trial's book.
-use Rattle.std.proofs.Common.{◌≡◌, ℕ, zero, suc, ◌+◌, ◌≤◌, cond, ltb, List, [], ◌∷◌, ◌++◌, length, drop, set, Some, None, Ok, Err, Option, Result, sym, refl, ap, ◌∙◌, subst, arith, lt-ltb}
+use Rattle.std.proofs.Common.{slice_get, ◌≡◌, ℕ, zero, suc, ◌+◌, ◌≤◌, cond, ltb, List, [], ◌∷◌, ◌++◌, length, drop, set, Some, None, Ok, Err, Option, Result, sym, refl, ap, ◌∙◌, subst, arith, lt-ltb}
 use Rattle.std.proofs.lemmas.List.{append-nil, length-set, length_push, drop_at, drop_all}
 use Rattle.std.proofs.lemmas.Bool.{cond-true, cond-false, le-ltb}
-use Rattle.calculus.specs.Places.{nth, if_some}
+use Rattle.calculus.specs.Places.{if_some}
 use Rattle.calculus.specs.declared.code.MethodEntry.{MethodEntry}
 use Rattle.store.specs.declared.closures.Closure.{Closure}
 use Rattle.store.specs.declared.closures.Method.{Method}
@@ -29,14 +29,14 @@ placed_front os new (n ∷ notes) h = ((h.0.0, h.0.1 ∙ sym (nth_append os new 
 
 -- an object in place of another of its size
 module _ (o q : Object) (same : length q ≡ length o) where
-  sized : (os : List Object) (l j : ℕ) (y : Object) → Some o ≡ nth os l → Some y ≡ nth os j → (z : Object) × (Some z ≡ nth (set os l q) j) × (length z ≡ length y)
+  sized : (os : List Object) (l j : ℕ) (y : Object) → Some o ≡ slice_get os l → Some y ≡ slice_get os j → (z : Object) × (Some z ≡ slice_get (set os l q) j) × (length z ≡ length y)
   sized [] l j y h k = never h
   sized (x ∷ os) zero zero y h k = let e : y ≡ o = cc in (q, refl, same ∙ ap length (sym e))
   sized (x ∷ os) zero (suc j) y h k = (y, k, refl)
   sized (x ∷ os) (suc l) zero y h k = (y, k, refl)
   sized (x ∷ os) (suc l) (suc j) y h k = sized os l j y h k
 
-  pub placed_set : (os : List Object) (l : ℕ) → Some o ≡ nth os l → (notes : List OldMethod) → AllPlaced os notes → AllPlaced (set os l q) notes
+  pub placed_set : (os : List Object) (l : ℕ) → Some o ≡ slice_get os l → (notes : List OldMethod) → AllPlaced os notes → AllPlaced (set os l q) notes
   placed_set os l h [] k = tt
   placed_set os l h (n ∷ notes) k =
       let z = sized os l n.location k.0.0 h k.0.1 in
@@ -84,7 +84,7 @@ module _ (table : List MethodEntry) (m : Meaning) (n : ℕ) (notes : List OldMet
     unchanged : (e : StoreFault) → m ≡ updated m l p c → Err e ≡ update_result m l p → Booked table m n notes (Update l p c)
     unchanged e same r = idle (Update l p c) (sym same) (ap (λ x. one_if_updated (told (λ u. answer.Updated) x)) (sym r))
 
-    changed : (o : Object) → Some o ≡ nth m.objects l → (x : Method) → Some x ≡ nth o p → Booked table m n notes (Update l p c)
+    changed : (o : Object) → Some o ≡ slice_get m.objects l → (x : Method) → Some x ≡ slice_get o p → Booked table m n notes (Update l p c)
     changed o h x k =
         let change = updates m l p c o h x k in
         let one : updates_by table m (Update l p c) ≡ 1 = ap (λ x. one_if_updated (told (λ u. answer.Updated) x)) (sym (placed m l p (λ y. Ok tt) o h x k)) in
@@ -107,13 +107,13 @@ module _ (table : List MethodEntry) (m : Meaning) (n : ℕ) (notes : List OldMet
           overruns = λ many. trial_is ∙ cond-false _ _ _ (le-ltb (length notes) 256 (omega (arith, one)));
         }
 
-    by_method : (o : Object) → Some o ≡ nth m.objects l → (x : Option Method) → x ≡ nth o p → Booked table m n notes (Update l p c)
+    by_method : (o : Object) → Some o ≡ slice_get m.objects l → (x : Option Method) → x ≡ slice_get o p → Booked table m n notes (Update l p c)
     by_method o h None k = unchanged NoPlace (no_update_here m l p c o h k) (not_placed m l p (λ y. Ok tt) o h k)
     by_method o h (Some x) k = changed o h x k
 
-    by_object : (x : Option Object) → x ≡ nth m.objects l → Booked table m n notes (Update l p c)
-    by_object None h = unchanged NoLocation (no_update_there m l p c h) (not_located m l (λ o. if_some (nth o p) (λ y. Ok tt) (Err NoPlace)) h)
-    by_object (Some o) h = by_method o h (nth o p) refl
+    by_object : (x : Option Object) → x ≡ slice_get m.objects l → Booked table m n notes (Update l p c)
+    by_object None h = unchanged NoLocation (no_update_there m l p c h) (not_located m l (λ o. if_some (slice_get o p) (λ y. Ok tt) (Err NoPlace)) h)
+    by_object (Some o) h = by_method o h (slice_get o p) refl
 
   pub booked : (c : StoreCall) → Booked table m n notes c
   booked ObjectCount = idle ObjectCount refl refl
@@ -126,5 +126,5 @@ module _ (table : List MethodEntry) (m : Meaning) (n : ℕ) (notes : List OldMet
       let es = entries_at table f k in
       let g = more (make_result m es) (methods_of es env) in
       grown (Make f k env) g.0 g.1 refl (no_update answer.Location (λ x. refl) (make_result m es))
-  booked (Clone l) = let g = more_of (nth m.objects l) in grown (Clone l) g.0 g.1 refl (no_update answer.Location (λ x. refl) (clone_result m l))
-  booked (Update l p c) = by_object l p c (nth m.objects l) refl
+  booked (Clone l) = let g = more_of (slice_get m.objects l) in grown (Clone l) g.0 g.1 refl (no_update answer.Location (λ x. refl) (clone_result m l))
+  booked (Update l p c) = by_object l p c (slice_get m.objects l) refl

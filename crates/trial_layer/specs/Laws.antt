@@ -1,6 +1,5 @@
 -- What trials promise over runs of calls.
-use Rattle.std.specs.Prelude.{◌≡◌, ℕ, ◌+◌, ◌<◌, ◌≤◌, List, [], ◌∷◌, ◌++◌, length, Some, Ok, Err, Result, ◌≢◌}
-use Rattle.calculus.specs.Places.{nth}
+use Rattle.std.specs.Prelude.{slice_get, ◌≡◌, ℕ, ◌+◌, ◌<◌, ◌≤◌, List, [], ◌∷◌, ◌++◌, length, Some, Ok, Err, Result, ◌≢◌}
 use Rattle.calculus.specs.declared.code.MethodEntry.{MethodEntry}
 use Rattle.store.specs.declared.closures.OldMethod.{OldMethod}
 use Rattle.store.specs.Meaning.{Meaning, Object, closed, opened, overrun, book_room}
@@ -15,7 +14,7 @@ use Rattle.trial_layer.specs.Trials.{with_trial, open_result, opening, kept, und
 
 -- the note lies at a place of an object
 abbrev pub Placed : List Object → OldMethod → Type 0
-Placed os old = (o : Object) × (Some o ≡ nth os old.location) × (old.place < length o)
+Placed os old = (o : Object) × (Some o ≡ slice_get os old.location) × (old.place < length o)
 
 abbrev pub AllPlaced : List Object → List OldMethod → Type 0
 AllPlaced os [] = Unit {0}

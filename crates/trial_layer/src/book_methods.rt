@@ -1,6 +1,5 @@
 //! The book's own methods.
-ghost use Rattle.std.specs.Prelude.{◌≡◌, ◌<◌, length, take, Some};
-ghost use Rattle.calculus.specs.Places.{nth};
+ghost use Rattle.std.specs.Prelude.{slice_get, ◌≡◌, ◌<◌, length, take, Some};
 ghost use Rattle.store.specs.Meaning.{closed, noted};
 ghost use Rattle.trial_layer.specs.Trials.{written, trial_of, open_result, trial_opened, is_open, back_fault};
 
@@ -49,7 +48,7 @@ impl Book {
     /// The old method at a place, the oldest at 0.
     pub fn note_at(&self, place: usize) -> OldMethod
         requires { place < length (written self.now) }
-        ensures { Some result ≡ nth (written self.now) place }
+        ensures { Some result ≡ slice_get (written self.now) place }
     {
         self.notes.get(place)
     }

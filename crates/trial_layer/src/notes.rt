@@ -1,6 +1,5 @@
 //! A plain table of old methods.
-ghost use Rattle.std.specs.Prelude.{◌≡◌, ◌<◌, length, Some, slice_set};
-ghost use Rattle.calculus.specs.Places.{nth};
+ghost use Rattle.std.specs.Prelude.{slice_get, ◌≡◌, ◌<◌, length, Some, slice_set};
 
 use store::closures::{Closure, OldMethod};
 
@@ -29,7 +28,7 @@ impl NoteTable {
     /// The old method in a row.
     pub fn get(&self, row: usize) -> OldMethod
         requires { (row < length self.now.rows) × (row < 256) }
-        ensures { Some result ≡ nth self.now.rows row }
+        ensures { Some result ≡ slice_get self.now.rows row }
     {
         self.rows[row]
     }

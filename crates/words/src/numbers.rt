@@ -90,8 +90,6 @@ pub fn integer(word: &[u8]) -> Option<i64>
 }
 
 /// The law of numbers: what is written of one in decimal is read as that number.
-pub fn numbers_read_again() -> u8
+pub fn numbers_read_again()
     ensures { ReadAgain }
-{
-    0
-}
+{}

@@ -81,8 +81,6 @@ impl<'a> Words<'a> {
 }
 
 /// The law of words: what blanks part, and nothing else.
-pub fn words_are_parted() -> u8
+pub fn words_are_parted()
     ensures { Parted }
-{
-    0
-}
+{}

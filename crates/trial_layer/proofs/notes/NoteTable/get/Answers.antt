@@ -1,6 +1,6 @@
-use Rattle.std.proofs.Common.{arith}
-use Rattle.calculus.proofs.Places.{nth_in}
+use Rattle.std.proofs.Common.{sym, arith}
+use Rattle.std.proofs.lemmas.Option.{slice_get-get_or}
 use Rattle.trial_layer.proofs.notes.NoteTable.get.Goals as goal
 
 pub returns : goal.returns
-returns c = nth_in c.args.self.now.rows c.args.row _ (omega arith)
+returns c = sym (slice_get-get_or c.args.self.now.rows c.args.row _ (omega arith))
