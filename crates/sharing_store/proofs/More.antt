@@ -5,7 +5,7 @@ use Rattle.sharing_store.specs.declared.entries.SharedEntry.{SharedEntry}
 use Rattle.sharing_store.specs.declared.table.SharingStore.{SharingStore}
 use Rattle.sharing_store.specs.Views.{no_entry, entry_at, View, view, Filled, Sound}
 use Rattle.sharing_store.specs.States.{entry, shown, RootOf}
-use Rattle.sharing_store.proofs.Steps.{Agrees, push, past}
+use Rattle.sharing_store.proofs.Steps.{Agrees, push}
 use Rattle.sharing_store.proofs.Walks.{with_last, sd_of}
 
 -- the new object is one of its own
@@ -90,9 +90,6 @@ module _ (es : List SharedEntry) (n : ℕ) (room : n < length es) (new : SharedE
 
   pub put_lasts : (k : ℕ) → k < n → (entry_at (set es n new) k).last ≡ (entry_at es k).last
   put_lasts k lt = ap (λ (e : SharedEntry). e.last) (put_other k lt)
-
-  pub put_sound : Sound (view es) n → Sound (view (set es n new)) n
-  put_sound = past (view es) (view (set es n new)) n put_agrees put_lasts
 
   -- and becomes the last of those that share with r
   module _ (r : ℕ) (in_use : r < n) where

@@ -4,10 +4,8 @@ use Rattle.std.proofs.lemmas.Bool.{leb-true}
 use Rattle.std.proofs.lemmas.Option.{slice_get_within, get_or_from_slice_get}
 use Rattle.calculus.specs.Places.{if_some}
 use Rattle.store.specs.declared.areas.Areas.{Areas}
-use Rattle.store.specs.declared.faults.StoreFault.{StoreFault}
 use Rattle.store.specs.declared.faults.StoreFault.TheVariants.{ObjectsFull, MethodsFull, NoLocation}
 use Rattle.store.specs.Areas.{entry_of, room_in}
-use Rattle.store.proofs.Nth.{nth_none}
 
 module _ {E : Type 0} (d : E) (es : List E) (n : ℕ) (fits : n ≤ length es) (l : ℕ) where
   long : length (take n es) ≡ n
@@ -21,19 +19,12 @@ module _ {E : Type 0} (d : E) (es : List E) (n : ℕ) (fits : n ≤ length es) (
       let same : e ≡ get_or (take n es) l d = cc in
       (low, same ∙ get_or-take n es l d low)
 
-  nowhere : (f : StoreFault) (x : Option E) → slice_get (take n es) l ≡ x → Err f ≡ if_some x (λ y. Ok y) (Err NoLocation) → (f ≡ NoLocation) × (n ≤ l)
-  nowhere f (Some y) h k = let z : ◌≡◌ {A = ℕ} 0 1 = cc in absurd (omega arith)
-  nowhere f None h k = (cc, omega (arith, long, nth_none (take n es) l h))
-
 module _ {E : Type 0} (s : Areas E) where
   fits : s.object_count ≤ length s.objects.now
   fits = omega arith
 
   pub entered : (d : E) (l : ℕ) (e : E) → Ok e ≡ entry_of s l → (l < s.object_count) × (e ≡ get_or s.objects.now l d)
   entered d l e h = there d s.objects.now s.object_count fits l e _ refl h
-
-  pub not_entered : (d : E) (l : ℕ) (f : StoreFault) → Err f ≡ entry_of s l → (f ≡ NoLocation) × (s.object_count ≤ l)
-  not_entered d l f h = nowhere d s.objects.now s.object_count fits l f _ refl h
 
   -- room for one object more, of n methods
   pub record Room (n k : ℕ) : Type 0 where

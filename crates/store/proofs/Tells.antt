@@ -6,14 +6,14 @@ use Rattle.store.specs.declared.closures.Closure.{Closure}
 use Rattle.store.specs.declared.closures.Method.{Method}
 use Rattle.store.specs.declared.closures.OldMethod.{OldMethod}
 use Rattle.store.specs.declared.faults.StoreFault.{StoreFault}
-use Rattle.store.specs.declared.faults.StoreFault.TheVariants.{ObjectsFull, MethodsFull, NoLocation, NoPlace}
+use Rattle.store.specs.declared.faults.StoreFault.TheVariants.{ObjectsFull, MethodsFull, NoPlace}
 use Rattle.store.specs.declared.layout.Span.{Span}
-use Rattle.store.specs.Areas.{method_of_span, closure_answer, closure_put}
+use Rattle.store.specs.Areas.{closure_answer, closure_put}
 use Rattle.store.specs.Layout.{part}
-use Rattle.store.specs.Meaning.{Meaning, no_trial, total, size_of, method_at, find_in, place_from, room_for, added, with_objects, methods_of, make_result, made_by, clone_result, cloned_by, with_closure, noted, update_result, updated}
+use Rattle.store.specs.Meaning.{Meaning, no_trial, total, size_of, room_for, added, with_objects, methods_of, make_result, made_by, clone_result, cloned_by, with_closure, noted, update_result, updated}
 use Rattle.store.proofs.Nth.{nth_some}
 use Rattle.store.proofs.Spans.{length_part, no_method_there}
-use Rattle.store.proofs.Ways.{located, not_located, not_placed, made, unmade, no_update_there, no_update_here, updates}
+use Rattle.store.proofs.Ways.{located, not_placed, made, unmade, no_update_here, updates}
 
 -- a plain store's n objects, the one at l having the methods of ms in `span l`, of which `used` are reserved
 pub record Tells (m : Meaning) (n used : ℕ) (span : ℕ → Span) (ms : List Method) : Type 0 where
@@ -21,36 +21,12 @@ pub record Tells (m : Meaning) (n used : ℕ) (span : ℕ → Span) (ms : List M
   pub count_is : length m.objects ≡ n
   pub total_is : total m.objects ≡ used
   pub object_at : (l : ℕ) → l < n → Some (part ms (span l)) ≡ slice_get m.objects l
-  pub none_at : (l : ℕ) → n ≤ l → None ≡ slice_get m.objects l
   pub within : (l : ℕ) → l < n → (span l).first + (span l).size ≤ used
   pub fits : used ≤ length ms
 
 module _ (m : Meaning) (n used : ℕ) (span : ℕ → Span) (ms : List Method) (t : Tells m n used span ms) where
   unnoted : (old : OldMethod) → m.trial ≡ noted old m.trial
   unnoted old = t.is_plain ∙ sym (ap (noted old) t.is_plain)
-
-  -- past the objects
-  module _ (l : ℕ) (le : n ≤ l) where
-    pub no_size : Err NoLocation ≡ size_of m l
-    no_size = not_located m l _ (t.none_at l le)
-
-    pub no_find : (x : ℕ) → Err NoLocation ≡ find_in m l x
-    no_find x = not_located m l _ (t.none_at l le)
-
-    pub no_method_at : (p : ℕ) → Err NoLocation ≡ method_at m l p
-    no_method_at p = not_located m l _ (t.none_at l le)
-
-    pub no_clone : Err NoLocation ≡ clone_result m l
-    no_clone = not_located m l _ (t.none_at l le)
-
-    pub no_cloned : m ≡ cloned_by m l
-    no_cloned = ap (λ x. with_objects m (if_some x (λ o. added (room_for m (length o)) o m.objects) m.objects)) (t.none_at l le)
-
-    pub no_update : (p : ℕ) → Err NoLocation ≡ update_result m l p
-    no_update p = not_located m l _ (t.none_at l le)
-
-    pub no_updated : (p : ℕ) (c : Closure) → m ≡ updated m l p c
-    no_updated p c = no_update_there m l p c (t.none_at l le)
 
   module _ (l : ℕ) (lt : l < n) where
     in_area : (span l).first + (span l).size ≤ length ms
@@ -61,12 +37,6 @@ module _ (m : Meaning) (n used : ℕ) (span : ℕ → Span) (ms : List Method) (
 
     pub size_is : Ok (span l).size ≡ size_of m l
     size_is = ap Ok (sym long) ∙ located m l _ _ (t.object_at l lt)
-
-    pub find_is : (x : ℕ) → Ok (place_from 0 (part ms (span l)) x) ≡ find_in m l x
-    find_is x = located m l _ _ (t.object_at l lt)
-
-    pub method_is : (p : ℕ) → method_of_span (part ms (span l)) p ≡ method_at m l p
-    method_is p = located m l _ _ (t.object_at l lt)
 
     pub update_is : (p : ℕ) → closure_answer (part ms (span l)) p ≡ update_result m l p
     update_is p = located m l _ _ (t.object_at l lt)

@@ -36,14 +36,14 @@ impl<'a, E: Copy> Areas<'a, E> {
     pub fn object_count(&self) -> u32
         ensures { result ≡ self.now.object_count }
     {
-        self.object_count
+        self.object_count // entries past it may be anything
     }
 
     /// How many methods they have together.
     pub fn method_count(&self) -> u32
         ensures { result ≡ self.now.method_count }
     {
-        self.method_count
+        self.method_count // methods past it may be anything
     }
 
     /// How many objects there can be.
@@ -65,7 +65,7 @@ impl<'a, E: Copy> Areas<'a, E> {
         requires { location < self.now.object_count }
         ensures { (e : E) → result ≡ slice_index_or self.now.objects.now location e }
     {
-        self.objects[location as usize]
+        self.objects[location as usize] // one that is counted
     }
 
     /// The entry of the object at a location.

@@ -9,7 +9,7 @@ use calculus::lookup::entry_at;
 use calculus::stack::counted_len;
 
 /// A stretch of a method area: its first entry, and how many there are.
-#[derive(Clone, Copy)]
+#[derive(Clone, Copy, Default)]
 pub struct Span {
     pub first: u32,
     pub size: u32,
@@ -37,6 +37,7 @@ pub fn place_of(methods: &[Method], span: Span, label: u16) -> Option<u32>
     ensures { result ≡ place_from 0 (part methods.now span) label }
 {
     let first = span.first as usize;
+    // By the place, and not by a method of the library: a rule of the project for this search.
     for place in 0..span.size {
         match entry_at(methods, first + place as usize) {
             Some(method) if method.label == label => return Some(place),
