@@ -12,7 +12,7 @@ module _ {E : Type 0} (d : E) (es : List E) (n : ℕ) (fits : n ≤ length es) (
   long = length-take-le n es fits
 
   there : (e : E) (x : Option E) → slice_get (take n es) l ≡ x → Ok e ≡ if_some x (λ y. Ok y) (Err NoLocation) → (l < n) × (e ≡ get_or es l d)
-  there e None h k = let z : ◌≡◌ {A = ℕ} 0 1 = cc in absurd (omega arith)
+  there e None h k = absurd cc
   there e (Some y) h k =
       let low : l < n = omega (arith, long, slice_get_within (take n es) l y h) in
       let is : get_or (take n es) l d ≡ y = get_or_from_slice_get (take n es) l y d h in
@@ -34,8 +34,8 @@ module _ {E : Type 0} (s : Areas E) where
 
   roomy : (n k : ℕ) (b d : Bool) → ltb s.object_count s.object_limit ≡ b → leb (s.method_count + n) s.method_limit ≡ d → Ok k ≡ cond b (cond d (Ok s.object_count) (Err MethodsFull)) (Err ObjectsFull) → Room n k
   roomy n k true true h g e = record { here = cc; objects = ltb-true _ _ h; methods = leb-true _ _ g }
-  roomy n k true false h g e = let z : ◌≡◌ {A = ℕ} 0 1 = cc in absurd (omega arith)
-  roomy n k false d h g e = let z : ◌≡◌ {A = ℕ} 0 1 = cc in absurd (omega arith)
+  roomy n k true false h g e = absurd cc
+  roomy n k false d h g e = absurd cc
 
   pub roomed : (n k : ℕ) → Ok k ≡ room_in s n → Room n k
   roomed n k h = roomy n k _ _ refl refl h

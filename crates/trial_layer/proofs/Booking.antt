@@ -20,7 +20,6 @@ use Rattle.store_laws.specs.Runs.{told, meaning_after, entries_at}
 use Rattle.trial_layer.specs.Laws.{Placed, AllPlaced, Booked}
 use Rattle.trial_layer.specs.Runs.{new_objects, updates_by, one_if_updated}
 use Rattle.trial_layer.specs.Trials.{undo}
-use Rattle.trial_layer.proofs.Entries.{never}
 use Rattle.trial_layer.proofs.Undoing.{undo_front, undo_put}
 
 pub placed_front : (os new : List Object) (notes : List OldMethod) → AllPlaced os notes → AllPlaced (os ++ new) notes
@@ -30,7 +29,7 @@ placed_front os new (n ∷ notes) h = ((h.0.0, h.0.1 ∙ sym (nth_append os new 
 -- an object in place of another of its size
 module _ (o q : Object) (same : length q ≡ length o) where
   sized : (os : List Object) (l j : ℕ) (y : Object) → Some o ≡ slice_get os l → Some y ≡ slice_get os j → (z : Object) × (Some z ≡ slice_get (set os l q) j) × (length z ≡ length y)
-  sized [] l j y h k = never h
+  sized [] l j y h k = absurd cc
   sized (x ∷ os) zero zero y h k = let e : y ≡ o = cc in (q, refl, same ∙ ap length (sym e))
   sized (x ∷ os) zero (suc j) y h k = (y, k, refl)
   sized (x ∷ os) (suc l) zero y h k = (y, k, refl)

@@ -1,7 +1,7 @@
-use Rattle.std.proofs.Common.{◌≡◌, ◌++◌, length, take, drop, sym, ap, ◌∙◌, subst, arith, length-take-le, take_all}
+use Rattle.std.proofs.Common.{◌≡◌, length, take, drop, sym, ap, ◌∙◌, subst, arith, length-take-le}
 use Rattle.std.proofs.lemmas.List.{take_at}
 use Rattle.store_laws.specs.Runs.{answers_to, meaning_after_all, Lasts, Alike}
-use Rattle.store_laws.proofs.Steps.{length_answers, state_more, answers_more}
+use Rattle.store_laws.proofs.Steps.{length_answers, state_more, answers_more, all_made}
 use Rattle.store_laws.proofs.Lasting.{all_last, answers_alike, all_alike}
 use Rattle.store_laws.proofs.runs.perform_all.Goals as goal
 
@@ -27,17 +27,15 @@ returns g c =
     let made = take count c.args.calls.now in
     let long : length made ≡ count = length-take-le count c.args.calls.now (omega (arith, c.min-count.ensures)) in
     let end : c.loop-i.i ≡ count = omega (arith, long) in
-    let whole : take c.loop-i.i made ≡ made = take_all c.loop-i.i made (omega (arith, long)) in
-    let answers : c.loop-i.answers ≡ answers_to table m made ++ drop count c.args.answers.now = c.loop-i.invariant.0 ∙ (λ k. answers_to table m (whole k) ++ drop (end k) c.args.answers.now) in
-    let state : after ≡ meaning_after_all table m made = c.loop-i.invariant.1 ∙ ap (meaning_after_all table m) whole in
+    let ran = all_made table m after made c.loop-i.i count c.loop-i.answers c.args.answers.now end long c.loop-i.invariant.0 c.loop-i.invariant.1 in
     let many : length (answers_to table m made) ≡ count = length_answers table m made ∙ long in
     record {
       count = c.min-count.ensures;
-      answers = answers;
-      state = state;
-      lasting = subst (λ x. Lasts m x) (sym state) (all_last table m made);
+      answers = ran.0;
+      state = ran.1;
+      lasting = subst (λ x. Lasts m x) (sym ran.1) (all_last table m made);
       alike = λ n a. (
-        answers_alike table n m a made ∙ sym (ap (take count) answers ∙ take_at (answers_to table m made) (drop count c.args.answers.now) count many),
-        subst (λ x. Alike (meaning_after_all table n made) x) (sym state) (all_alike table n m a made),
+        answers_alike table n m a made ∙ sym (ap (take count) ran.0 ∙ take_at (answers_to table m made) (drop count c.args.answers.now) count many),
+        subst (λ x. Alike (meaning_after_all table n made) x) (sym ran.1) (all_alike table n m a made),
       );
     }
