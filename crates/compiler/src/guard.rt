@@ -14,10 +14,7 @@ impl Drop for Restore<'_> {
         ensures { self.exit.0.now ≡ self.entry.saved }
     {
         *self.counts = self.saved;
-        let Restore {
-            counts: _,
-            saved: _,
-        } = self;
+        let Restore { .. } = self;
     }
 }
 
@@ -26,9 +23,6 @@ impl Restore<'_> {
     pub(crate) fn disarm(self)
         ensures { self.exit.0.now ≡ self.entry.counts.now }
     {
-        let Restore {
-            counts: _,
-            saved: _,
-        } = self;
+        let Restore { .. } = self;
     }
 }
