@@ -14,7 +14,10 @@ impl Drop for Restore<'_> {
         ensures { self.exit.0.now ≡ self.entry.saved }
     {
         *self.counts = self.saved;
-        let Restore { .. } = self;
+        let Restore {
+            counts: _,
+            saved: _,
+        } = self;
     }
 }
 
@@ -23,6 +26,9 @@ impl Restore<'_> {
     pub(crate) fn disarm(self)
         ensures { self.exit.0.now ≡ self.entry.counts.now }
     {
-        let Restore { .. } = self;
+        let Restore {
+            counts: _,
+            saved: _,
+        } = self;
     }
 }

@@ -1,4 +1,4 @@
-use Rattle.std.proofs.Common.{◌≡◌, ◌+◌, ◌-◌, ◌*◌, ◌≤◌, map, length}
+use Rattle.std.proofs.Common.{◌≡◌, ◌+◌, ◌-◌, ◌*◌, ◌≤◌, length}
 use Rattle.compiler.specs.Emit.{ReadyAll, LeftAll}
 use Rattle.compiler.specs.Writing.{source, target}
 use Rattle.compiler.proofs.emission.Emission.+emit_list_emit_methods_emit_term.Given as goal
