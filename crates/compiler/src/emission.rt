@@ -29,23 +29,25 @@ fn kind_of(row: Row) -> RowKind
 }
 
 /// The operation of a variable or a figure.
-fn leaf(row: Row) -> Operation
+fn leaf(kind: RowKind, row: Row) -> Operation
+    requires { kind_number kind ≡ row.kind }
     ensures { result ≡ leaf_of row }
 {
-    match RowKind::try_from(row.kind) {
-        Ok(RowKind::Variable) => Operation::Access(plain_number(row.number)),
+    match kind {
+        RowKind::Variable => Operation::Access(plain_number(row.number)),
         _ => Operation::Figure(row.number),
     }
 }
 
 /// The operation of a row that follows a head, where `list` is the number of its body's list.
-fn follower(row: Row, list: u32) -> Operation
+fn follower(kind: RowKind, row: Row, list: u32) -> Operation
+    requires { kind_number kind ≡ row.kind }
     ensures { result ≡ follower_of row list }
 {
-    match RowKind::try_from(row.kind) {
-        Ok(RowKind::Select) => Operation::Select(row.label),
-        Ok(RowKind::Update) => Operation::Update(row.label, list),
-        Ok(RowKind::Clone) => Operation::Clone,
+    match kind {
+        RowKind::Select => Operation::Select(row.label),
+        RowKind::Update => Operation::Update(row.label, list),
+        RowKind::Clone => Operation::Clone,
         _ => Operation::Let(list),
     }
 }
@@ -81,9 +83,10 @@ impl Emission<'_, '_> {
         ensures wrote { Wrote (source self.old) at slot result (target self.old) (target self.new) }
     {
         let row = self.rows[at];
-        match kind_of(row) {
+        let kind = kind_of(row);
+        match kind {
             RowKind::Variable | RowKind::Figure => {
-                self.tables.operations[slot] = leaf(row);
+                self.tables.operations[slot] = leaf(kind, row);
                 at + 1
             }
             RowKind::Object => {
@@ -95,13 +98,13 @@ impl Emission<'_, '_> {
             }
             RowKind::Select | RowKind::Clone => {
                 let next = self.emit_term(at + 1, slot - 1);
-                self.tables.operations[slot] = follower(row, self.counts.contents);
+                self.tables.operations[slot] = follower(kind, row, self.counts.contents);
                 next
             }
             _ => {
                 let body = self.emit_term(at + 1, slot - 1);
                 let list = self.counts.contents;
-                self.tables.operations[slot] = follower(row, list);
+                self.tables.operations[slot] = follower(kind, row, list);
                 self.emit_list(body, 0)
             }
         }

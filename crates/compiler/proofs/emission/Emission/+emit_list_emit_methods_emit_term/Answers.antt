@@ -68,48 +68,48 @@ pub emit_term-bounds-self-at : goal.emit_term-bounds-self-at
 emit_term-bounds-self-at t c = ready_lt c.args.self.now.rows.now _ _ _ c.requires
 
 pub emit_term-overflow_add-self : goal.emit_term-overflow_add-self
-emit_term-overflow_add-self t c = let q : c.plain_number-count.result ≡ small (row_at c.args.self.now.rows.now c.args.at).number = search rules in let lt = object_fits c.args.self.now.rows.now _ _ _ (object_kind _ _ c.kind_of.ensures c.in-Object.is) c.plain_number-count.result q c.requires in search rules
+emit_term-overflow_add-self t c = let q : c.plain_number-count.result ≡ small (row_at c.args.self.now.rows.now c.args.at).number = search rules in let lt = object_fits c.args.self.now.rows.now _ _ _ (object_kind _ _ c.kind_of-kind.ensures c.in-Object.is) c.plain_number-count.result q c.requires in search rules
 
 pub emit_term-emit_methods-requires : goal.emit_term-emit_methods-requires
-emit_term-emit_methods-requires t c = let lt = ready_lt c.args.self.now.rows.now _ _ _ c.requires in let q : c.plain_number-count.result ≡ small (row_at c.args.self.now.rows.now c.args.at).number = search rules in (search rules, (object_room c.args.self.now.rows.now _ _ _ (object_kind _ _ c.kind_of.ensures c.in-Object.is) c.plain_number-count.result q c.requires _, omega arith))
+emit_term-emit_methods-requires t c = let lt = ready_lt c.args.self.now.rows.now _ _ _ c.requires in let q : c.plain_number-count.result ≡ small (row_at c.args.self.now.rows.now c.args.at).number = search rules in (search rules, (object_room c.args.self.now.rows.now _ _ _ (object_kind _ _ c.kind_of-kind.ensures c.in-Object.is) c.plain_number-count.result q c.requires _, omega arith))
 
 pub emit_term-overflow_sub-slot : goal.emit_term-overflow_sub-slot
-emit_term-overflow_sub-slot t c = (one_room c.args.self.now.rows.now _ _ _ (one_kind _ _ c.kind_of.ensures c.in-Select.is) c.requires).0
+emit_term-overflow_sub-slot t c = (one_room c.args.self.now.rows.now _ _ _ (one_kind _ _ c.kind_of-kind.ensures c.in-Select.is) c.requires).0
 
 pub emit_term-emit_term-next-requires : goal.emit_term-emit_term-next-requires
 emit_term-emit_term-next-requires t c =
     let lt = ready_lt c.args.self.now.rows.now _ _ _ c.requires in
-    (search rules, (one_room c.args.self.now.rows.now _ _ _ (one_kind _ _ c.kind_of.ensures c.in-Select.is) c.requires).1)
+    (search rules, (one_room c.args.self.now.rows.now _ _ _ (one_kind _ _ c.kind_of-kind.ensures c.in-Select.is) c.requires).1)
 
 pub emit_term-bounds-self-slot-in-Select : goal.emit_term-bounds-self-slot-in-Select
-emit_term-bounds-self-slot-in-Select t c = one_slot c.args.self.now.rows.now _ _ _ (one_kind _ _ c.kind_of.ensures c.in-Select.is) _ _ c.emit_term-next.ensures.wrote c.requires
+emit_term-bounds-self-slot-in-Select t c = one_slot c.args.self.now.rows.now _ _ _ (one_kind _ _ c.kind_of-kind.ensures c.in-Select.is) _ _ c.emit_term-next.ensures.wrote c.requires
 
 pub emit_term-overflow_add-at-in_default : goal.emit_term-overflow_add-at-in_default
 emit_term-overflow_add-at-in_default t c = let lt = ready_lt c.args.self.now.rows.now _ _ _ c.requires in search rules
 
 pub emit_term-overflow_sub-slot-in_default : goal.emit_term-overflow_sub-slot-in_default
-emit_term-overflow_sub-slot-in_default t c = (two_room c.args.self.now.rows.now _ _ _ (two_kind _ _ c.kind_of.ensures c.in_default.not-Variable c.in_default.not-Figure c.in_default.not-Object c.in_default.not-Select c.in_default.not-Clone) c.requires).0
+emit_term-overflow_sub-slot-in_default t c = (two_room c.args.self.now.rows.now _ _ _ (two_kind _ _ c.kind_of-kind.ensures c.in_default.not-Variable c.in_default.not-Figure c.in_default.not-Object c.in_default.not-Select c.in_default.not-Clone) c.requires).0
 
 pub emit_term-emit_term-body-requires : goal.emit_term-emit_term-body-requires
-emit_term-emit_term-body-requires t c = let lt = ready_lt c.args.self.now.rows.now _ _ _ c.requires in (search rules, (two_room c.args.self.now.rows.now _ _ _ (two_kind _ _ c.kind_of.ensures c.in_default.not-Variable c.in_default.not-Figure c.in_default.not-Object c.in_default.not-Select c.in_default.not-Clone) c.requires).1)
+emit_term-emit_term-body-requires t c = let lt = ready_lt c.args.self.now.rows.now _ _ _ c.requires in (search rules, (two_room c.args.self.now.rows.now _ _ _ (two_kind _ _ c.kind_of-kind.ensures c.in_default.not-Variable c.in_default.not-Figure c.in_default.not-Object c.in_default.not-Select c.in_default.not-Clone) c.requires).1)
 
 pub emit_term-bounds-self-slot-in_default : goal.emit_term-bounds-self-slot-in_default
-emit_term-bounds-self-slot-in_default t c = (two_slot c.args.self.now.rows.now _ _ _ (two_kind _ _ c.kind_of.ensures c.in_default.not-Variable c.in_default.not-Figure c.in_default.not-Object c.in_default.not-Select c.in_default.not-Clone) _ _ c.emit_term-body.ensures.wrote c.requires (op.Access 0)).0
+emit_term-bounds-self-slot-in_default t c = (two_slot c.args.self.now.rows.now _ _ _ (two_kind _ _ c.kind_of-kind.ensures c.in_default.not-Variable c.in_default.not-Figure c.in_default.not-Object c.in_default.not-Select c.in_default.not-Clone) _ _ c.emit_term-body.ensures.wrote c.requires (op.Access 0)).0
 
 pub emit_term-emit_list-requires : goal.emit_term-emit_list-requires
-emit_term-emit_list-requires t c = let lt = ready_lt c.args.self.now.rows.now _ _ _ c.requires in (search rules, subst (λ (rows : List Row). ReadyList (map plain rows) c.emit_term-body.result (wrote c.args.slot c.follower-in_default.result (target c.emit_term-body.new.self))) (sym (ap (λ r. r.now) c.emit_term-body.ensures.same_rows)) (two_slot c.args.self.now.rows.now _ _ _ (two_kind _ _ c.kind_of.ensures c.in_default.not-Variable c.in_default.not-Figure c.in_default.not-Object c.in_default.not-Select c.in_default.not-Clone) _ _ c.emit_term-body.ensures.wrote c.requires c.follower-in_default.result).1)
+emit_term-emit_list-requires t c = let lt = ready_lt c.args.self.now.rows.now _ _ _ c.requires in (search rules, subst (λ (rows : List Row). ReadyList (map plain rows) c.emit_term-body.result (wrote c.args.slot c.follower-in_default.result (target c.emit_term-body.new.self))) (sym (ap (λ r. r.now) c.emit_term-body.ensures.same_rows)) (two_slot c.args.self.now.rows.now _ _ _ (two_kind _ _ c.kind_of-kind.ensures c.in_default.not-Variable c.in_default.not-Figure c.in_default.not-Object c.in_default.not-Select c.in_default.not-Clone) _ _ c.emit_term-body.ensures.wrote c.requires c.follower-in_default.result).1)
 
 pub emit_term-returns-in-Object-clause-wrote : goal.emit_term-returns-in-Object-clause-wrote
-emit_term-returns-in-Object-clause-wrote t c = let q : c.plain_number-count.result ≡ small (row_at c.args.self.now.rows.now c.args.at).number = search rules in wrote_object c.args.self.now.rows.now _ _ _ (object_kind _ _ c.kind_of.ensures c.in-Object.is) c.plain_number-count.result q _ _ c.emit_methods.ensures.wrote
+emit_term-returns-in-Object-clause-wrote t c = let q : c.plain_number-count.result ≡ small (row_at c.args.self.now.rows.now c.args.at).number = search rules in wrote_object c.args.self.now.rows.now _ _ _ (object_kind _ _ c.kind_of-kind.ensures c.in-Object.is) c.plain_number-count.result q _ _ c.emit_methods.ensures.wrote
 
 pub emit_term-returns-in-Select-clause-wrote : goal.emit_term-returns-in-Select-clause-wrote
-emit_term-returns-in-Select-clause-wrote t c = let q : c.follower.result ≡ follower_of (row_at c.args.self.now.rows.now c.args.at) c.emit_term-next.new.self.counts.contents = search rules in wrote_one c.args.self.now.rows.now _ _ _ (one_kind _ _ c.kind_of.ensures c.in-Select.is) _ _ c.emit_term-next.ensures.wrote c.follower.result q
+emit_term-returns-in-Select-clause-wrote t c = let q : c.follower.result ≡ follower_of (row_at c.args.self.now.rows.now c.args.at) c.emit_term-next.new.self.counts.contents = search rules in wrote_one c.args.self.now.rows.now _ _ _ (one_kind _ _ c.kind_of-kind.ensures c.in-Select.is) _ _ c.emit_term-next.ensures.wrote c.follower.result q
 
 pub emit_term-returns-in-Variable-clause-wrote : goal.emit_term-returns-in-Variable-clause-wrote
-emit_term-returns-in-Variable-clause-wrote t c = let q : c.leaf.result ≡ leaf_of (row_at c.args.self.now.rows.now c.args.at) = search rules in let lt = ready_lt c.args.self.now.rows.now _ _ _ c.requires in wrote_leaf c.args.self.now.rows.now _ _ _ (leaf_kind _ _ c.kind_of.ensures c.in-Variable.is) c.leaf.result q
+emit_term-returns-in-Variable-clause-wrote t c = let q : c.leaf.result ≡ leaf_of (row_at c.args.self.now.rows.now c.args.at) = search rules in let lt = ready_lt c.args.self.now.rows.now _ _ _ c.requires in wrote_leaf c.args.self.now.rows.now _ _ _ (leaf_kind _ _ c.kind_of-kind.ensures c.in-Variable.is) c.leaf.result q
 
 pub emit_term-returns-in_default-clause-wrote : goal.emit_term-returns-in_default-clause-wrote
-emit_term-returns-in_default-clause-wrote t c = let q : c.follower-in_default.result ≡ follower_of (row_at c.args.self.now.rows.now c.args.at) c.emit_term-body.new.self.counts.contents = search rules in wrote_two c.args.self.now.rows.now _ _ _ (two_kind _ _ c.kind_of.ensures c.in_default.not-Variable c.in_default.not-Figure c.in_default.not-Object c.in_default.not-Select c.in_default.not-Clone) _ _ c.emit_term-body.ensures.wrote c.follower-in_default.result q _ _ (subst (λ (rows : List Row). WroteList (map plain rows) c.emit_term-body.result 0 c.emit_list.result (wrote c.args.slot c.follower-in_default.result (target c.emit_term-body.new.self)) (target c.emit_list.new.self)) (ap (λ r. r.now) c.emit_term-body.ensures.same_rows) c.emit_list.ensures.wrote)
+emit_term-returns-in_default-clause-wrote t c = let q : c.follower-in_default.result ≡ follower_of (row_at c.args.self.now.rows.now c.args.at) c.emit_term-body.new.self.counts.contents = search rules in wrote_two c.args.self.now.rows.now _ _ _ (two_kind _ _ c.kind_of-kind.ensures c.in_default.not-Variable c.in_default.not-Figure c.in_default.not-Object c.in_default.not-Select c.in_default.not-Clone) _ _ c.emit_term-body.ensures.wrote c.follower-in_default.result q _ _ (subst (λ (rows : List Row). WroteList (map plain rows) c.emit_term-body.result 0 c.emit_list.result (wrote c.args.slot c.follower-in_default.result (target c.emit_term-body.new.self)) (target c.emit_list.new.self)) (ap (λ r. r.now) c.emit_term-body.ensures.same_rows) c.emit_list.ensures.wrote)
 
 pub emit_list-front_len-spine-requires : goal.emit_list-front_len-spine-requires
 emit_list-front_len-spine-requires t c = let lt = list_lt c.args.self.now.rows.now _ _ c.requires in omega arith
@@ -117,5 +117,5 @@ emit_list-front_len-spine-requires t c = let lt = list_lt c.args.self.now.rows.n
 pub emit_list-overflow_add-first : goal.emit_list-overflow_add-first
 emit_list-overflow_add-first t c = let s = list_fits c.args.self.now.rows.now _ _ 0 _ c.front_len-spine.ensures c.requires in search rules
 
-pub emit_term-kind_of-requires : goal.emit_term-kind_of-requires
-emit_term-kind_of-requires t c = let k = ready_kind c.args.self.now.rows.now _ _ _ c.requires in (k.0, omega (arith, k.1))
+pub emit_term-kind_of-kind-requires : goal.emit_term-kind_of-kind-requires
+emit_term-kind_of-kind-requires t c = let k = ready_kind c.args.self.now.rows.now _ _ _ c.requires in (k.0, omega (arith, k.1))
