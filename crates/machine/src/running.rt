@@ -43,13 +43,13 @@ impl<'a> Machine<'a> {
         requires { Sound (state_of self.old) }
         ensures { ran_of result self.new (S.meaning store.new) ≡ run_for n (text_of code.now) (state_of self.old) (S.meaning store.old) }
     {
-        let mut left = n;
-        loop {
-            match self.turn(code, store, left) {
-                Ok(()) => left -= 1,
-                Err(stop) => return stop,
+        for left in (0..=n).rev() {
+            if let Err(stop) = self.turn(code, store, left) {
+                return stop;
             }
         }
+        // a turn with none left has stopped before
+        Stop::Paused
     }
 
     /// Whether no count can pass its limit, whatever the program does with its allowance.

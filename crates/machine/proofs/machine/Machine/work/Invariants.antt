@@ -7,6 +7,3 @@ use Rattle.machine.proofs.machine.Machine.work.Given as goal
 
 abbrev pub invariant-loop-left : goal.invariant-loop-left
 invariant-loop-left g l = (run_for l.left (text_of l.code) (state_of l.self) (g.S.Store.meaning l.store) ≡ run_for l.n (text_of l.code) (state_of l.initial.self) (g.S.Store.meaning l.initial.store)) × Sound (state_of l.self)
-
-abbrev pub decreases-loop-left : goal.decreases-loop-left
-decreases-loop-left g l = l.left
