@@ -35,14 +35,14 @@ module _ {S : Type 0} (meaning : S → Meaning) (rows : List Row) (g : ℕ) (bef
   abbrev over : Tables → Counts → laws.Session
   over u d = session_over u d (state_of before.machine) (meaning before.store)
 
-  pub compile_steps : (r : Result ℕ Refusal) → r ≡ code.answer rows g before.tables before.counts →
-      MatchResult r (λ n. Compiled rows g n before.tables before.counts after.tables after.counts) (λ e. Untouched before.tables before.counts after.tables after.counts) →
-      over after.tables after.counts ≡ held_by meaning after → Step meaning (compile rows g) before r after
+  pub compile_steps : (r : Result ℕ Refusal) → r ≡ code.answer rows g before.area.tables before.area.counts →
+      MatchResult r (λ n. Compiled rows g n before.area.tables before.area.counts after.area.tables after.area.counts) (λ e. Untouched before.area.tables before.area.counts after.area.tables after.area.counts) →
+      over after.area.tables after.area.counts ≡ held_by meaning after → Step meaning (compile rows g) before r after
   compile_steps (Ok n) e k same =
-      let o = areas_are_sessions before.tables before.counts (state_of before.machine) (meaning before.store) w in
+      let o = areas_are_sessions before.area.tables before.area.counts (state_of before.machine) (meaning before.store) w in
       stepped meaning (compile rows g) before after (Ok n) _ (e ∙ o.compile_answers rows g) (o.compile_leaves rows g n _ _ (sym e) k) same k.fits
   compile_steps (Err x) e k same =
-      let o = areas_are_sessions before.tables before.counts (state_of before.machine) (meaning before.store) w in
+      let o = areas_are_sessions before.area.tables before.area.counts (state_of before.machine) (meaning before.store) w in
       let f₁ = k.contents in let f₂ = k.operations in let f₃ = k.methods in let f₄ = k.counts in
-      let kept : within after.counts (rooms after.tables) ≡ within before.counts (rooms before.tables) = cc in
+      let kept : within after.area.counts (rooms after.area.tables) ≡ within before.area.counts (rooms before.area.tables) = cc in
       stepped meaning (compile rows g) before after (Err x) _ (e ∙ o.compile_answers rows g) (o.compile_refused rows g x _ _ (sym e) k) same (kept ∙ w)

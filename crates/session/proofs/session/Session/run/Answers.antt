@@ -15,10 +15,10 @@ returns g c =
       counts = search rules;
       step =
           λ w.
-          let o = areas_are_sessions c.args.self.now.tables c.args.self.now.counts (state_of c.args.self.now.machine) (g.S.Store.meaning c.args.self.now.store) w in
+          let o = areas_are_sessions c.args.self.now.area.tables c.args.self.now.area.counts (state_of c.args.self.now.machine) (g.S.Store.meaning c.args.self.now.store) w in
           stepped g.S.Store.meaning (call.run c.args.n) c.args.self.now _ c.run.result _
           (c.run.ensures.answer ∙ o.run_answers c.args.n)
           (o.run_leaves c.args.n)
-          (over_same c.args.self.now.tables c.args.self.now.tables c.args.self.now.counts c.args.self.now.counts _ _ _ _ refl refl c.run.ensures.state c.run.ensures.store)
+          (over_same c.args.self.now.area.tables c.args.self.now.area.tables c.args.self.now.area.counts c.args.self.now.area.counts _ _ _ _ refl refl c.run.ensures.state c.run.ensures.store)
           w;
     }

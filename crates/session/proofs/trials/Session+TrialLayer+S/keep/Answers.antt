@@ -16,10 +16,10 @@ returns g c =
       counts = search rules;
       step =
           λ w.
-          let o = areas_are_sessions c.args.self.now.tables c.args.self.now.counts (state_of c.args.self.now.machine) (layer_meaning g.S.Store.meaning c.args.self.now.store) w in
+          let o = areas_are_sessions c.args.self.now.area.tables c.args.self.now.area.counts (state_of c.args.self.now.machine) (layer_meaning g.S.Store.meaning c.args.self.now.store) w in
           stepped (layer_meaning g.S.Store.meaning) (call.keep c.args.token.number) c.args.self.now _ c.keep.result _
           c.keep.ensures.answer
           (o.keep_leaves c.args.token.number)
-          (over_same c.args.self.now.tables c.args.self.now.tables c.args.self.now.counts c.args.self.now.counts _ _ _ _ refl refl refl c.keep.ensures.state)
+          (over_same c.args.self.now.area.tables c.args.self.now.area.tables c.args.self.now.area.counts c.args.self.now.area.counts _ _ _ _ refl refl refl c.keep.ensures.state)
           w;
     }
