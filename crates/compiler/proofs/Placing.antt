@@ -3,7 +3,6 @@ use Rattle.std.proofs.Common.{◌≡◌, ℕ, suc, ◌+◌, ◌^◌, ◌<◌, �
 use Rattle.std.proofs.lemmas.Bool.{and_parts, cond-true, cond-false}
 use Rattle.calculus.specs.declared.rows.Row.{Row}
 use Rattle.calculus.specs.declared.code.Counts.{Counts}
-use Rattle.calculus.specs.declared.code.Counts.{Counts}
 use Rattle.calculus.specs.declared.code.Tables.{Tables}
 use Rattle.calculus.specs.declared.refusals.Refusal.TheVariants.{ContentsFull, OperationsFull, MethodsFull}
 use Rattle.calculus.specs.Held.{counted}
@@ -20,7 +19,7 @@ use Rattle.rows.specs.Verdict.{verdict}
 use Rattle.rows.specs.Laws.{Writes}
 use Rattle.compiler.specs.Fronts.{followers, inner, inner_all}
 use Rattle.compiler.specs.Area.{Area, area}
-use Rattle.compiler.specs.Emit.{ReadyList, WroteList, put_list}
+use Rattle.compiler.specs.Emit.{ReadyList, WroteProgram, put_list}
 use Rattle.compiler.specs.Compile.{moved_by, placed, answer, Compiled}
 use Rattle.compiler.proofs.Views.{Sized, sized_list}
 use Rattle.compiler.proofs.Laying.{text, appended, below}
@@ -142,9 +141,9 @@ module _ (rows : List Row) (g : ℕ) (t : Tables) (c R : Counts) (z : Counts) (e
         let d = cond-false _ (Err MethodsFull) (Ok c.contents) (le-ltb (rooms t).methods (moved_by c z).methods r.methods) in
         sym (cond-true _ _ _ (is_within c (rooms t) inside) ∙ ap (placed (rooms t) c) (sym v) ∙ a ∙ b ∙ d)
 
-    module _ (u : Tables) (e d : Counts) (next : ℕ) (wrote : WroteList (map plain rows) 0 (g + 1) next (area t c) (area u e)) (moved : d ≡ moved_by c z) where
+    module _ (u : Tables) (e d : Counts) (wrote : WroteProgram (map plain rows) (g + 1) (area t c) (area u e)) (moved : d ≡ moved_by c z) where
       is_put : (x : Term) → Writes rows g x → area u e ≡ put_list (g + 1) x (area t c)
-      is_put x w = (wrote x [] (w.is ∙ sym (append-nil (rows_of x))) (1, g, omega (arith, w.readable.few_givens), w.fit)).1
+      is_put x w = (wrote x [] (w.is ∙ sym (append-nil (rows_of x))) (1, g, omega (arith, w.readable.few_givens), w.fit))
 
       counts_are : (x : Term) → Writes rows g x → d ≡ e
       counts_are x w =

@@ -1,6 +1,6 @@
 -- Rows with their unused fields left out, and the number of rows in front of a head.
-use Rattle.std.proofs.Common.{◌≡◌, ℕ, suc, ◌+◌, ◌<◌, ◌≤◌, cond, leb, List, [], ◌∷◌, ◌++◌, map, length, drop, sym, refl, ap, ◌∙◌, append_assoc, arith, length-append, length-drop}
-use Rattle.std.proofs.lemmas.List.{drop-map, drop_more, at_drop_more, at_drop_all}
+use Rattle.std.proofs.Common.{◌≡◌, ℕ, ◌+◌, ◌<◌, ◌≤◌, cond, leb, List, [], ◌∷◌, ◌++◌, map, length, drop, sym, refl, ap, ◌∙◌, append_assoc, arith, length-append, length-drop}
+use Rattle.std.proofs.lemmas.List.{drop-map, drop_more}
 use Rattle.calculus.specs.declared.rows.Row.{Row}
 use Rattle.calculus.specs.declared.values.Value.TheVariants.{Figure, Location}
 use Rattle.calculus.specs.Terms.{Term, var, val, object, select, update, clone, bind}
@@ -8,15 +8,9 @@ use Rattle.calculus.specs.Rows.{rows_of, plain}
 use Rattle.calculus.proofs.Sizes.{blank, row_at}
 use Rattle.compiler.specs.Fronts.{followers, front}
 
-pub front_step : (rows : List Row) (i : ℕ) → i < length rows → front (drop i rows) ≡ cond (leb 4 (row_at rows i).kind) (suc (front (drop (i + 1) rows))) 0
-front_step rows i h = at_drop_more front rows i blank h
-
-pub front_end : (rows : List Row) (i : ℕ) → length rows ≤ i → front (drop i rows) ≡ 0
-front_end rows i h = at_drop_all front rows i h
-
 front_plain : (rows : List Row) → front (map plain rows) ≡ front rows
 front_plain [] = refl
-front_plain (r ∷ rs) = ap (λ (x : ℕ). cond (leb 4 r.kind) (suc x) 0) (front_plain rs)
+front_plain (r ∷ rs) = ap (λ (x : ℕ). cond (leb 4 r.kind) (1 + x) 0) (front_plain rs)
 
 pub front_same : (rows : List Row) (at : ℕ) → front (drop at rows) ≡ front (drop at (map plain rows))
 front_same rows at = sym (front_plain (drop at rows)) ∙ ap front (sym (drop-map plain at rows))
@@ -45,7 +39,7 @@ front_is (var i) rest = refl
 front_is (val (Figure k)) rest = refl
 front_is (val (Location n)) rest = refl
 front_is (object ms) rest = refl
-front_is (select a l) rest = ap suc (front_is a rest) ∙ omega arith
-front_is (update a l b) rest = ap suc (ap front (append_assoc (rows_of a) (rows_of b) rest) ∙ front_is a (rows_of b ++ rest)) ∙ omega arith
-front_is (clone a) rest = ap suc (front_is a rest) ∙ omega arith
-front_is (bind a b) rest = ap suc (ap front (append_assoc (rows_of a) (rows_of b) rest) ∙ front_is a (rows_of b ++ rest)) ∙ omega arith
+front_is (select a l) rest = ap (λ n. 1 + n) (front_is a rest) ∙ omega arith
+front_is (update a l b) rest = ap (λ n. 1 + n) (ap front (append_assoc (rows_of a) (rows_of b) rest) ∙ front_is a (rows_of b ++ rest)) ∙ omega arith
+front_is (clone a) rest = ap (λ n. 1 + n) (front_is a rest) ∙ omega arith
+front_is (bind a b) rest = ap (λ n. 1 + n) (ap front (append_assoc (rows_of a) (rows_of b) rest) ∙ front_is a (rows_of b ++ rest)) ∙ omega arith

@@ -1,8 +1,12 @@
 -- What each way of the emission needs and shows.
-use Rattle.std.proofs.Common.{◌≡◌, ℕ, ◌+◌, ◌-◌, ◌^◌, ◌<◌, ◌≤◌, List, [], ◌∷◌, ◌++◌, map, length, drop, pos, sym, refl, ap, ◌∙◌, subst, append_assoc, arith, length-set}
+use Rattle.std.proofs.Common.{◌≡◌, ℕ, ◌+◌, ◌-◌, ◌^◌, ◌<◌, ◌≤◌, ◌⊎◌, inl, inr, List, [], ◌∷◌, ◌++◌, map, length, drop, pos, sym, refl, ap, ◌∙◌, subst, append_assoc, arith, length-set}
 use lib.ListN.{length-map, get_or-map}
 use Rattle.std.proofs.lemmas.Bool.Decides.{nat_tests}
 use Rattle.calculus.specs.declared.rows.Row.{Row}
+use Rattle.calculus.specs.declared.rows.RowKind.{RowKind}
+use Rattle.calculus.specs.declared.rows.RowKind.TheVariants.{Variable, Object, Select, Update, Clone, Let, Method}
+use Rattle.calculus.specs.declared.rows.RowKind.TheVariants as kinds
+use Rattle.calculus.specs.Kinds.{kind_number}
 use Rattle.calculus.specs.Terms.{Term, Methods, var, val, object, select, update, clone, bind, nil, method}
 use Rattle.calculus.specs.Rows.{many, rows_of, method_rows, plain}
 use Rattle.calculus.specs.declared.code.Operation.{Operation}
@@ -41,15 +45,38 @@ ready_lt rs at slot T R = lt_plain rs at R.term R.rest R.here
 pub list_lt : (rs : List Row) (at : ℕ) (T : Area) → ReadyList (map plain rs) at T → at < length rs
 list_lt rs at T R = lt_plain rs at R.term R.rest R.here
 
-past_heads : (t : Term) → ((first t).kind ≡ 1 → ⊥) → ((first t).kind ≡ 2 → ⊥) → ((first t).kind ≡ 3 → ⊥) → 4 ≤ (first t).kind
-past_heads (var i) a b c = absurd (a refl)
-past_heads (val (Figure k)) a b c = absurd (b refl)
-past_heads (val (Location n)) a b c = absurd (b refl)
-past_heads (object ms) a b c = absurd (c refl)
-past_heads (select x l) a b c = omega arith
-past_heads (update x l y) a b c = omega arith
-past_heads (clone x) a b c = omega arith
-past_heads (bind x y) a b c = omega arith
+first_kind : (t : Term) → (1 ≤ (first t).kind) × ((first t).kind ≤ 7)
+first_kind (var i) = (omega arith, omega arith)
+first_kind (val (Figure k)) = (omega arith, omega arith)
+first_kind (val (Location n)) = (omega arith, omega arith)
+first_kind (object ms) = (omega arith, omega arith)
+first_kind (select x l) = (omega arith, omega arith)
+first_kind (update x l y) = (omega arith, omega arith)
+first_kind (clone x) = (omega arith, omega arith)
+first_kind (bind x y) = (omega arith, omega arith)
+
+-- a kind's number, by which way its rows go
+module _ (k : RowKind) (n : ℕ) (is : kind_number k ≡ n) where
+  pub leaf_kind : ((k ≡ Variable) ⊎ (k ≡ kinds.Figure)) → n ≤ 2
+  leaf_kind (inl e) = omega (arith, is, ap kind_number e)
+  leaf_kind (inr e) = omega (arith, is, ap kind_number e)
+
+  pub object_kind : k ≡ Object → n ≡ 3
+  object_kind e = sym is ∙ ap kind_number e
+
+  pub one_kind : ((k ≡ Select) ⊎ (k ≡ Clone)) → (4 ≤ n) × (n ≡ 5 → ⊥) × (n ≡ 7 → ⊥)
+  one_kind (inl e) = let q = ap kind_number e in (omega (arith, is), λ x. omega (arith, is), λ x. omega (arith, is))
+  one_kind (inr e) = let q = ap kind_number e in (omega (arith, is), λ x. omega (arith, is), λ x. omega (arith, is))
+
+pub two_kind : (k : RowKind) (n : ℕ) → kind_number k ≡ n → (k ≡ Variable → ⊥) → (k ≡ kinds.Figure → ⊥) → (k ≡ Object → ⊥) → (k ≡ Select → ⊥) → (k ≡ Clone → ⊥) → (5 ≤ n) × (n ≡ 6 → ⊥)
+two_kind Variable n is a b c d e = absurd (a refl)
+two_kind kinds.Figure n is a b c d e = absurd (b refl)
+two_kind Object n is a b c d e = absurd (c refl)
+two_kind Select n is a b c d e = absurd (d refl)
+two_kind Update n is a b c d e = (omega (arith, is), λ x. omega (arith, is))
+two_kind Clone n is a b c d e = absurd (e refl)
+two_kind Let n is a b c d e = (omega (arith, is), λ x. omega (arith, is))
+two_kind Method n is a b c d e = (omega (arith, is), λ x. omega (arith, is))
 
 module _ (rs : List Row) (at slot : ℕ) (T : Area) where
   abbrev P : List Row
@@ -66,6 +93,10 @@ module _ (rs : List Row) (at slot : ℕ) (T : Area) where
 
   next_is : (t : Term) (rest : List Row) → drop at P ≡ rows_of t ++ rest → (xs : List Row) → after t ≡ xs → drop (at + 1) P ≡ xs ++ rest
   next_is t rest e xs q = (begins P at t rest e).1 ∙ ap (λ (x : List Row). x ++ rest) q
+
+  -- the row where a term begins is of a kind that begins one
+  pub ready_kind : Ready P at slot T → (1 ≤ r.kind) × (r.kind ≤ 7)
+  ready_kind R = let q = kind_is R.term R.rest R.here in let k = first_kind R.term in (omega (arith, q), omega (arith, q))
 
   pub wrote_leaf : r.kind ≤ 2 → (x : Operation) → x ≡ leaf_of r → Wrote P at slot (at + 1) T (wrote slot x T)
   wrote_leaf k x x-is t rest e f =
@@ -114,11 +145,11 @@ module _ (rs : List Row) (at slot : ℕ) (T : Area) where
           u.1 ∙ ap (λ (x : ℕ). put_methods v.ms T.m (reserved x (wrote slot (op.Object T.m x) T))) q ∙ sym (v.put_is slot T),
         )
 
-  module _ (low : 4 ≤ r.kind) (not-update : r.kind ≡ 5 → ⊥) (not-let : r.kind ≡ 7 → ⊥) where
+  module _ (k : (4 ≤ r.kind) × (r.kind ≡ 5 → ⊥) × (r.kind ≡ 7 → ⊥)) where
     one_view : (t : Term) (rest : List Row) → drop at P ≡ rows_of t ++ rest → Fit t → One t
     one_view t rest e f =
         let q = kind_is t rest e in
-        is_one t f (omega arith) (λ x. not-update (q ∙ x)) (λ x. not-let (q ∙ x))
+        is_one t f (omega (arith, k.0)) (λ x. k.1 (q ∙ x)) (λ x. k.2 (q ∙ x))
 
     pub one_room : Ready P at slot T → (1 ≤ slot) × Ready P (at + 1) (slot - 1) T
     one_room R =
@@ -157,11 +188,11 @@ module _ (rs : List Row) (at slot : ℕ) (T : Area) where
                 ∙ sym (v.put_is slot T),
           )
 
-  module _ (not-head : (r.kind ≡ 1 → ⊥) × (r.kind ≡ 2 → ⊥) × (r.kind ≡ 3 → ⊥)) (not-select : r.kind ≡ 4 → ⊥) (not-clone : r.kind ≡ 6 → ⊥) where
+  module _ (k : (5 ≤ r.kind) × (r.kind ≡ 6 → ⊥)) where
     two_view : (t : Term) (rest : List Row) → drop at P ≡ rows_of t ++ rest → Fit t → Two t
     two_view t rest e f =
         let q = kind_is t rest e in
-        is_two t f (past_heads t (λ x. not-head.0 (q ∙ x)) (λ x. not-head.1 (q ∙ x)) (λ x. not-head.2 (q ∙ x))) (λ x. not-select (q ∙ x)) (λ x. not-clone (q ∙ x))
+        is_two t f (omega (arith, k.0)) (λ x. omega (arith, k.0)) (λ x. k.1 (q ∙ x))
 
     two_next : (t : Term) (rest : List Row) → drop at P ≡ rows_of t ++ rest → (v : Two t) → drop (at + 1) P ≡ rows_of v.a ++ (rows_of v.b ++ rest)
     two_next t rest e v = next_is t rest e _ v.rows_after ∙ append_assoc (rows_of v.a) (rows_of v.b) rest

@@ -107,6 +107,10 @@ Wrote rows at slot next T U = (t : Term) (rest : List Row) → drop at rows ≡ 
 abbrev pub WroteList : List Row → ℕ → ℕ → ℕ → Area → Area → Type 0
 WroteList rows at mark next T U = (t : Term) (rest : List Row) → drop at rows ≡ rows_of t ++ rest → Fit t → (drop next rows ≡ rest) × (U ≡ put_list mark t T)
 
+-- the same of the whole program
+abbrev pub WroteProgram : List Row → ℕ → Area → Area → Type 0
+WroteProgram rows mark T U = (t : Term) (rest : List Row) → rows ≡ rows_of t ++ rest → Fit t → U ≡ put_list mark t T
+
 abbrev pub WroteAll : List Row → ℕ → ℕ → ℕ → ℕ → Area → Area → Type 0
 WroteAll rows at f count next T U = (ms : Methods) (rest : List Row) → drop at rows ≡ method_rows ms ++ rest → FitAll ms → many ms ≡ count → (drop next rows ≡ rest) × (U ≡ put_methods ms f T)
 

@@ -1,5 +1,6 @@
 -- A list's own operations, and those of the bodies in it.
-use Rattle.std.specs.Prelude.{ℕ, suc, ◌+◌, cond, List, [], ◌∷◌, nat_le}
+use Rattle.std.specs.Prelude.{ℕ, ◌+◌, List, nat_le}
+use Rattle.std.specs.List.{prefix_len}
 use Rattle.calculus.specs.declared.rows.Row.{Row}
 use Rattle.calculus.specs.Terms.{Term, var, val, object, select, update, clone, bind, Methods, nil, method}
 
@@ -30,5 +31,4 @@ abbrev mutual
 
 -- how many rows stand in front of the first head row
 abbrev pub front : List Row → ℕ
-front [] = 0
-front (r ∷ rs) = cond (nat_le 4 r.kind) (suc (front rs)) 0
+front rows = prefix_len (λ r. nat_le 4 r.kind) rows

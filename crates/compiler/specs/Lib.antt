@@ -1,4 +1,5 @@
 pub mod Fronts
 pub mod Area
 pub mod Emit
+pub mod Writing
 pub mod Compile

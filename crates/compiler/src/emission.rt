@@ -1,32 +1,40 @@
 //! The lists of a term, written into the tables in one descent.
-ghost use Rattle.std.specs.Prelude.{◌≡◌, ◌+◌, ◌-◌, ◌<◌, ◌≤◌, map, length, drop};
+ghost use Rattle.std.specs.Prelude.{◌≡◌, ◌<◌, ◌≤◌, map, length, drop};
 ghost use Rattle.calculus.specs.Rows.{plain};
+ghost use Rattle.calculus.specs.Kinds.{kind_number};
 ghost use Rattle.compiler.specs.Fronts.{front};
 ghost use Rattle.compiler.specs.Area.{area};
-ghost use Rattle.compiler.specs.Emit.{small, leaf_of, follower_of, Ready, ReadyList, ReadyAll, Wrote, WroteList, WroteAll};
+ghost use Rattle.compiler.specs.Emit.{small, leaf_of, follower_of, Ready, ReadyList, ReadyAll, Wrote, WroteList, WroteProgram, WroteAll};
+ghost use Rattle.compiler.specs.Writing.{source, target};
 
 use calculus::code::{Counts, ListEntry, MethodEntry, Operation, Tables};
-use calculus::rows::{CLONE, FIGURE, OBJECT, Row, SELECT, UPDATE, VARIABLE};
+use calculus::rows::{Row, RowKind};
 
 /// A row's number, which the check has bounded.
 fn plain_number(number: i64) -> u32
     ensures { result ≡ small number }
 {
-    if number >= 0 && number <= 1000 {
-        number as u32
-    } else {
-        0
+    match number {
+        0..=1000 => number as u32,
+        _ => 0,
     }
+}
+
+/// The kind of a row that the check has let through.
+fn kind_of(row: Row) -> RowKind
+    requires { (1 ≤ row.kind) × (row.kind ≤ 8) }
+    ensures { kind_number result ≡ row.kind }
+{
+    RowKind::try_from(row.kind).unwrap()
 }
 
 /// The operation of a variable or a figure.
 fn leaf(row: Row) -> Operation
     ensures { result ≡ leaf_of row }
 {
-    if row.kind == VARIABLE {
-        Operation::Access(plain_number(row.number))
-    } else {
-        Operation::Figure(row.number)
+    match RowKind::try_from(row.kind) {
+        Ok(RowKind::Variable) => Operation::Access(plain_number(row.number)),
+        _ => Operation::Figure(row.number),
     }
 }
 
@@ -34,115 +42,126 @@ fn leaf(row: Row) -> Operation
 fn follower(row: Row, list: u32) -> Operation
     ensures { result ≡ follower_of row list }
 {
-    match row.kind {
-        SELECT => Operation::Select(row.label),
-        UPDATE => Operation::Update(row.label, list),
-        CLONE => Operation::Clone,
+    match RowKind::try_from(row.kind) {
+        Ok(RowKind::Select) => Operation::Select(row.label),
+        Ok(RowKind::Update) => Operation::Update(row.label, list),
+        Ok(RowKind::Clone) => Operation::Clone,
         _ => Operation::Let(list),
     }
 }
 
-/// How many rows stand in front of the head row of the list that begins at `at`.
-fn front_len(rows: &[Row], at: usize) -> usize
-    requires { at ≤ length rows.now }
-    ensures { (result ≡ front (drop at rows.now)) × (at + result ≤ length rows.now) }
-{
-    let mut end = at;
-    while end < rows.len() && rows[end].kind >= SELECT {
-        end += 1;
-    }
-    end - at
+/// Rows on their way into the tables, with what is used of each table so far.
+#[derive(Drop)]
+struct Emission<'t, 'a> {
+    tables: &'t mut Tables<'a>,
+    counts: Counts,
+    rows: &'t [Row],
 }
 
-/// Writes the operations of the term at row `at`, the last of them at `slot`.
-#[cycle(emit_list_emit_methods_emit_term)]
-fn emit_term(
-    tables: &mut Tables<'_>,
-    counts: &mut Counts,
-    rows: &[Row],
-    at: usize,
-    slot: usize,
-) -> usize
-    requires { Ready (map plain rows.now) at slot (area tables.old counts.old) }
-    ensures next { (at < result) × (result ≤ length rows.now) }
-    ensures wrote { Wrote (map plain rows.now) at slot result (area tables.old counts.old) (area tables.new counts.new) }
-{
-    let row = rows[at];
-    match row.kind {
-        VARIABLE | FIGURE => {
-            tables.operations[slot] = leaf(row);
-            at + 1
-        }
-        OBJECT => {
-            let first = counts.methods;
-            let count = plain_number(row.number);
-            tables.operations[slot] = Operation::Object { first, count };
-            counts.methods = first + count;
-            emit_methods(tables, counts, rows, at + 1, first, count)
-        }
-        SELECT | CLONE => {
-            let next = emit_term(tables, counts, rows, at + 1, slot - 1);
-            tables.operations[slot] = follower(row, counts.contents);
-            next
-        }
-        _ => {
-            let body = emit_term(tables, counts, rows, at + 1, slot - 1);
-            let list = counts.contents;
-            tables.operations[slot] = follower(row, list);
-            emit_list(tables, counts, rows, body, 0)
+impl Emission<'_, '_> {
+    /// How many rows stand in front of the head row of the list that begins at `at`.
+    fn front_len(&self, at: usize) -> usize
+        requires { at ≤ length self.now.rows.now }
+        ensures { result ≡ front (drop at self.now.rows.now) }
+    {
+        self.rows
+            .iter()
+            .skip(at)
+            .take_while(|row| row.kind >= RowKind::Select as u8)
+            .count()
+    }
+
+    /// Writes the operations of the term at row `at`, the last of them at `slot`.
+    #[cycle(emit_list_emit_methods_emit_term)]
+    fn emit_term(&mut self, at: usize, slot: usize) -> usize
+        requires { Ready (source self.old) at slot (target self.old) }
+        ensures same_tables { self.new.tables.ghost_name ≡ self.old.tables.ghost_name }
+        ensures same_rows { self.new.rows ≡ self.old.rows }
+        ensures next { (at < result) × (result ≤ length self.old.rows.now) }
+        ensures wrote { Wrote (source self.old) at slot result (target self.old) (target self.new) }
+    {
+        let row = self.rows[at];
+        match kind_of(row) {
+            RowKind::Variable | RowKind::Figure => {
+                self.tables.operations[slot] = leaf(row);
+                at + 1
+            }
+            RowKind::Object => {
+                let first = self.counts.methods;
+                let count = plain_number(row.number);
+                self.tables.operations[slot] = Operation::Object { first, count };
+                self.counts.methods = first + count;
+                self.emit_methods(at + 1, first, count)
+            }
+            RowKind::Select | RowKind::Clone => {
+                let next = self.emit_term(at + 1, slot - 1);
+                self.tables.operations[slot] = follower(row, self.counts.contents);
+                next
+            }
+            _ => {
+                let body = self.emit_term(at + 1, slot - 1);
+                let list = self.counts.contents;
+                self.tables.operations[slot] = follower(row, list);
+                self.emit_list(body, 0)
+            }
         }
     }
-}
 
-/// Writes the methods of an object, from row `from` on: their entries from `first` on, and their lists.
-#[cycle(emit_list_emit_methods_emit_term)]
-fn emit_methods(
-    tables: &mut Tables<'_>,
-    counts: &mut Counts,
-    rows: &[Row],
-    from: usize,
-    first: u32,
-    count: u32,
-) -> usize
-    requires ready { ReadyAll (map plain rows.now) from first count (area tables.old counts.old) }
-    requires within { from ≤ length rows.now }
-    ensures next { (from ≤ result) × (result ≤ length rows.now) }
-    ensures wrote { WroteAll (map plain rows.now) from first count result (area tables.old counts.old) (area tables.new counts.new) }
-{
-    let mut at = from;
-    for k in 0..count {
-        let label = rows[at].label;
-        tables.methods[(first + k) as usize] = MethodEntry {
-            label,
-            list: counts.contents,
+    /// Writes the methods of an object, from row `from` on: their entries from `first` on, and their lists.
+    #[cycle(emit_list_emit_methods_emit_term)]
+    fn emit_methods(&mut self, from: usize, first: u32, count: u32) -> usize
+        requires ready { ReadyAll (source self.old) from first count (target self.old) }
+        requires within { from ≤ length self.old.rows.now }
+        ensures same_tables { self.new.tables.ghost_name ≡ self.old.tables.ghost_name }
+        ensures same_rows { self.new.rows ≡ self.old.rows }
+        ensures next { (from ≤ result) × (result ≤ length self.old.rows.now) }
+        ensures wrote { WroteAll (source self.old) from first count result (target self.old) (target self.new) }
+    {
+        let mut at = from;
+        for k in 0..count {
+            let label = self.rows[at].label;
+            self.tables.methods[(first + k) as usize] = MethodEntry {
+                label,
+                list: self.counts.contents,
+            };
+            at = self.emit_list(at + 1, 0);
+        }
+        at
+    }
+
+    /// Opens the next list, with this mark, for the term at row `at`, and writes it.
+    #[cycle(emit_list_emit_methods_emit_term)]
+    fn emit_list(&mut self, at: usize, mark: u32) -> usize
+        requires { ReadyList (source self.old) at (target self.old) }
+        ensures same_tables { self.new.tables.ghost_name ≡ self.old.tables.ghost_name }
+        ensures same_rows { self.new.rows ≡ self.old.rows }
+        ensures next { (at < result) × (result ≤ length self.old.rows.now) }
+        ensures wrote { WroteList (source self.old) at mark result (target self.old) (target self.new) }
+    {
+        let spine = self.front_len(at);
+        let first = self.counts.operations;
+        let n = self.counts.contents;
+        self.tables.contents[n as usize] = ListEntry {
+            first,
+            len: spine as u32 + 1,
+            mark,
         };
-        at = emit_list(tables, counts, rows, at + 1, 0);
+        self.counts.contents = n + 1;
+        self.counts.operations = first + spine as u32 + 1;
+        self.emit_term(at, first as usize + spine)
     }
-    at
 }
 
-/// Opens the next list, with this mark, for the term at row `at`, and writes it.
-#[cycle(emit_list_emit_methods_emit_term)]
-pub(crate) fn emit_list(
-    tables: &mut Tables<'_>,
-    counts: &mut Counts,
-    rows: &[Row],
-    at: usize,
-    mark: u32,
-) -> usize
-    requires { ReadyList (map plain rows.now) at (area tables.old counts.old) }
-    ensures next { (at < result) × (result ≤ length rows.now) }
-    ensures wrote { WroteList (map plain rows.now) at mark result (area tables.old counts.old) (area tables.new counts.new) }
+/// Writes the lists of a checked term behind what is used of the tables, its main list with this mark: what is used then.
+pub(crate) fn emit(tables: &mut Tables<'_>, used: Counts, rows: &[Row], mark: u32) -> Counts
+    requires { ReadyList (map plain rows.now) 0 (area tables.old used) }
+    ensures { WroteProgram (map plain rows.now) mark (area tables.old used) (area tables.new result) }
 {
-    let spine = front_len(rows, at);
-    let first = counts.operations;
-    let n = counts.contents;
-    tables.contents[n as usize] = ListEntry {
-        first,
-        len: spine as u32 + 1,
-        mark,
+    let mut emission = Emission {
+        tables,
+        counts: used,
+        rows,
     };
-    counts.contents = n + 1;
-    counts.operations = first + spine as u32 + 1;
-    emit_term(tables, counts, rows, at, first as usize + spine)
+    let _end = emission.emit_list(0, mark);
+    emission.counts
 }

@@ -7,29 +7,27 @@ ghost use Rattle.compiler.specs.Compile.{answer, Compiled, Untouched};
 mod emission;
 mod guard;
 
-use crate::emission::emit_list;
+use crate::emission::emit;
 use crate::guard::Restore;
 use calculus::area::{fits_in, rooms_of};
-use calculus::code::{Counts, Tables};
+use calculus::code::CodeArea;
 use calculus::refusals::Refusal;
 use calculus::rows::Row;
 use rows::check_rows;
 
-/// Compiles the rows of a term with this many givens into the tables: the number of its main list.
-pub fn compile(
-    rows: &[Row],
-    givens: u32,
-    tables: &mut Tables<'_>,
-    counts: &mut Counts,
-) -> Result<u32, Refusal>
-    ensures answer { result ≡ answer rows.now givens tables.old counts.old }
+/// Compiles the rows of a term with this many givens into the area: the number of its main list.
+pub fn compile(rows: &[Row], givens: u32, area: &mut CodeArea<'_>) -> Result<u32, Refusal>
+    ensures answer { result ≡ answer rows.now givens area.old.tables area.old.counts }
     ensures leaves { MatchResult result
-        (λ n. Compiled rows.now givens n tables.old counts.old tables.new counts.new)
-        (λ _. Untouched tables.old counts.old tables.new counts.new) }
+        (λ n. Compiled rows.now givens n area.old.tables area.old.counts area.new.tables area.new.counts)
+        (λ _. Untouched area.old.tables area.old.counts area.new.tables area.new.counts) }
 {
-    let saved = *counts;
-    let rooms = rooms_of(tables);
-    let guard = Restore { counts, saved };
+    let saved = area.counts;
+    let rooms = rooms_of(&area.tables);
+    let guard = Restore {
+        counts: &mut area.counts,
+        saved,
+    };
     if !fits_in(saved, rooms) {
         return Err(Refusal::CountOutside);
     }
@@ -46,8 +44,7 @@ pub fn compile(
     if guard.counts.methods > rooms.methods {
         return Err(Refusal::MethodsFull);
     }
-    let mut next = saved;
-    let _end = emit_list(tables, &mut next, rows, 0, givens + 1);
+    let _used = emit(&mut area.tables, saved, rows, givens + 1);
     guard.disarm();
     Ok(saved.contents)
 }

@@ -1,37 +1,41 @@
 -- One row of the walk, and the parts by kind.
-use Rattle.std.proofs.Common.{◌≡◌, ℕ, suc, ◌+◌, ◌-◌, ◌<◌, ◌≤◌, false, ◌||◌, eqb, ◌⊎◌, List, [], ◌∷◌, ◌++◌, length, get_or, drop, nat_abs, Some, None, ap, ◌∙◌, add-one, arith, drop-cons}
-use Rattle.std.proofs.lemmas.List.{drop_all, at_drop_more, at_drop_all}
+use Rattle.std.proofs.Common.{nat_eq, refl, sym, inl, inr, ◌≡◌, ℕ, suc, ◌+◌, ◌-◌, ◌<◌, ◌≤◌, ◌⊎◌, List, [], ◌∷◌, ◌++◌, length, drop, nat_abs, Some, None, ap, ◌∙◌, arith}
+use Rattle.std.proofs.lemmas.List.{at_drop_more, at_drop_all}
+use Rattle.std.specs.List.{list_any}
 use Rattle.std.proofs.lemmas.Bool.Decides.{nat_tests}
 use Rattle.calculus.specs.declared.rows.Row.{Row}
 use Rattle.calculus.specs.declared.refusals.RowFault.{RowFault}
 use Rattle.calculus.specs.declared.refusals.RowFault.TheVariants.{Ends, Left}
 use Rattle.calculus.specs.declared.refusals.Refusal.TheVariants.{AtRow}
 use Rattle.calculus.specs.Rows.{has}
-use Rattle.calculus.proofs.Sizes.{blank, row_at}
+use Rattle.calculus.proofs.Sizes.{blank}
+use Rattle.calculus.specs.Kinds.{kind_number}
+use Rattle.calculus.specs.declared.rows.RowKind.{RowKind}
+use Rattle.calculus.specs.declared.rows.RowKind.TheVariants.{Variable, Figure, Object, Select, Update, Clone, Let, Method}
 use Rattle.rows.specs.Verdict.{Want, a_term, a_method, judge, methods, parts, follows, unless, walk}
 
-pub has_step : (x : ℕ) (s : List ℕ) (i : ℕ) → i < length s → has x (drop i s) ≡ (eqb x (get_or s i 0) || has x (drop (i + 1) s))
-has_step x s i h = rw (add-one, drop-cons s i 0)
+-- the library's test of a slice, and this one
+pub has_any : (x : ℕ) (s : List ℕ) → list_any (λ y. nat_eq y x) s ≡ has x s
+has_any x [] = refl
+has_any x (y ∷ ys) = grind (arith, nat_tests, has_any x ys)
 
-pub has_end : (x : ℕ) (s : List ℕ) (i : ℕ) → length s ≤ i → has x (drop i s) ≡ false
-has_end x s i h = rw drop_all
-
-pub walk_ends : (rows : List Row) (p : ℕ) (w : Want) (ws : List Want) → length rows ≤ p → walk (drop p rows) p (w ∷ ws) ≡ Some (AtRow Ends p)
+pub walk_ends : (rows : List Row) (p : ℕ) (w : Want) (ws : List Want) → drop p rows ≡ [] → walk (drop p rows) p (w ∷ ws) ≡ Some (AtRow Ends p)
 unfolding walk
-walk_ends rows p w ws h = at_drop_all (λ l. walk l p (w ∷ ws)) rows p h
+walk_ends rows p w ws e = ap (λ l. walk l p (w ∷ ws)) e
 
-module _ (rows : List Row) (p : ℕ) (w : Want) (ws : List Want) (h : p < length rows) where
-  walk_row : walk (drop p rows) p (w ∷ ws) ≡ unless (judge (row_at rows p) w) p (walk (drop (p + 1) rows) (p + 1) (follows (row_at rows p) w ++ ws))
+-- the row at a place, and those after it
+module _ (rows : List Row) (p : ℕ) (r : Row) (here : drop p rows ≡ r ∷ drop (p + 1) rows) (w : Want) (ws : List Want) where
+  walk_row : walk (drop p rows) p (w ∷ ws) ≡ unless (judge r w) p (walk (drop (p + 1) rows) (p + 1) (follows r w ++ ws))
   unfolding walk
-  walk_row = at_drop_more (λ l. walk l p (w ∷ ws)) rows p blank h
+  walk_row = ap (λ l. walk l p (w ∷ ws)) here
 
-  pub refuses : (f : RowFault) → judge (row_at rows p) w ≡ Some f → walk (drop p rows) p (w ∷ ws) ≡ Some (AtRow f p)
-  refuses f e = walk_row ∙ ap (λ x. unless x p (walk (drop (p + 1) rows) (p + 1) (follows (row_at rows p) w ++ ws))) e
+  pub refuses : (f : RowFault) → judge r w ≡ Some f → walk (drop p rows) p (w ∷ ws) ≡ Some (AtRow f p)
+  refuses f e = walk_row ∙ ap (λ x. unless x p (walk (drop (p + 1) rows) (p + 1) (follows r w ++ ws))) e
 
-  pub passes : judge (row_at rows p) w ≡ None → (fs : List Want) → follows (row_at rows p) w ≡ fs → walk (drop p rows) p (w ∷ ws) ≡ walk (drop (p + 1) rows) (p + 1) (fs ++ ws)
+  pub passes : judge r w ≡ None → (fs : List Want) → follows r w ≡ fs → walk (drop p rows) p (w ∷ ws) ≡ walk (drop (p + 1) rows) (p + 1) (fs ++ ws)
   passes e fs q =
       walk_row
-      ∙ ap (λ x. unless x p (walk (drop (p + 1) rows) (p + 1) (follows (row_at rows p) w ++ ws))) e
+      ∙ ap (λ x. unless x p (walk (drop (p + 1) rows) (p + 1) (follows r w ++ ws))) e
       ∙ ap (λ x. walk (drop (p + 1) rows) (p + 1) (x ++ ws)) q
 
 -- the parts, by kind
@@ -47,6 +51,36 @@ module _ (r : Row) (d s : ℕ) where
 
   pub parts_none : (r.kind ≡ 3 → ⊥) → (r.kind ≡ 4 → ⊥) → (r.kind ≡ 5 → ⊥) → (r.kind ≡ 6 → ⊥) → (r.kind ≡ 7 → ⊥) → parts r d s ≡ []
   parts_none a b c e f = grind (arith, nat_tests)
+
+-- the parts, by what kind the number is of
+module _ (k : RowKind) (r : Row) (d s : ℕ) (is : kind_number k ≡ r.kind) where
+  pub kind_one : ((k ≡ Select) ⊎ (k ≡ Clone)) → parts r d s ≡ a_term (d + 1) s ∷ []
+  kind_one (inl e) = parts_one r d s (inl (sym is ∙ ap kind_number e))
+  kind_one (inr e) = parts_one r d s (inr (sym is ∙ ap kind_number e))
+
+  pub kind_two : ((k ≡ Update) ⊎ (k ≡ Let)) → parts r d s ≡ a_term (d + 1) s ∷ a_term (d + 1) (s + 1) ∷ []
+  kind_two (inl e) = parts_two r d s (inl (sym is ∙ ap kind_number e))
+  kind_two (inr e) = parts_two r d s (inr (sym is ∙ ap kind_number e))
+
+  pub kind_object : k ≡ Object → parts r d s ≡ methods (nat_abs r.number) (d + 1) s []
+  kind_object e = parts_object r d s (sym is ∙ ap kind_number e)
+
+pub kind_none : (k : RowKind) (r : Row) (d s : ℕ) → kind_number k ≡ r.kind → (k ≡ Object → ⊥) → (k ≡ Select → ⊥) → (k ≡ Update → ⊥) → (k ≡ Clone → ⊥) → (k ≡ Let → ⊥) → parts r d s ≡ []
+kind_none Variable r d s is a b c e f = grind (arith, nat_tests)
+kind_none Figure r d s is a b c e f = grind (arith, nat_tests)
+kind_none Object r d s is a b c e f = absurd (a refl)
+kind_none Select r d s is a b c e f = absurd (b refl)
+kind_none Update r d s is a b c e f = absurd (c refl)
+kind_none Clone r d s is a b c e f = absurd (e refl)
+kind_none Let r d s is a b c e f = absurd (f refl)
+kind_none Method r d s is a b c e f = grind (arith, nat_tests)
+
+-- what is wanted at a level is wanted at one that is the same
+pub same_level : (rows : List Row) (p d s d' s' : ℕ) (ws : List Want) → (d' ≡ d) × (s' ≡ s) → walk rows p (a_term d s ∷ ws) ≡ walk rows p (a_term d' s' ∷ ws)
+same_level rows p d s d' s' ws e = rw (e.0, e.1) refl
+
+pub same_methods : (rows : List Row) (p n d s n' d' s' : ℕ) (ws : List Want) → n' ≡ n → (d' ≡ d) × (s' ≡ s) → walk rows p (methods n d s [] ++ ws) ≡ walk rows p (methods n' d' s' [] ++ ws)
+same_methods rows p n d s n' d' s' ws h e = rw (h, e.0, e.1) refl
 
 -- the methods still to come, where one is
 methods_more : (n k d s : ℕ) (seen : List ℕ) → k < n → methods (n - k) d s seen ≡ a_method (n - (k + 1)) d s seen ∷ []

@@ -1,15 +1,17 @@
 //! The check of a table of rows.
 #![tactic(auto)]
 
-ghost use Rattle.std.specs.Prelude.{◌≡◌, ℕ, ◌+◌, ◌-◌, ◌*◌, ◌<◌, ◌≤◌, List, [], ◌∷◌, ◌++◌, length, take, drop, IfOk};
-ghost use Rattle.calculus.specs.Rows.{has};
+ghost use Rattle.std.specs.Prelude.{◌≡◌, ℕ, ◌+◌, ◌-◌, ◌*◌, ◌<◌, ◌≤◌, List, [], ◌∷◌, ◌++◌, length, drop, Some, None, IfOk, MatchResult};
+ghost use Rattle.calculus.specs.declared.refusals.RowFault.TheVariants.{Ends};
+ghost use Rattle.calculus.specs.declared.refusals.Refusal.TheVariants.{AtRow};
+ghost use Rattle.calculus.specs.Kinds.{kind_number};
 ghost use Rattle.calculus.specs.Sizes.{row_sizes};
 ghost use Rattle.rows.specs.Verdict.{Want, a_term, methods, term_fault, method_fault, walk, after, verdict};
 ghost use Rattle.rows.specs.Laws.{Accepts, FirstFault};
 
 use calculus::code::Counts;
 use calculus::refusals::{Refusal, RowFault};
-use calculus::rows::{CLONE, FIGURE, LET, METHOD, OBJECT, Row, SELECT, UPDATE, VARIABLE};
+use calculus::rows::{Row, RowKind};
 
 /// A table has at most this many rows.
 pub const MOST_ROWS: usize = 65_535;
@@ -20,129 +22,155 @@ pub const MOST_DEPTH: u32 = 200;
 /// An object has at most this many methods.
 pub const MOST_METHODS: i64 = 64;
 
-/// What is wrong with a row that begins a term at this depth, under `scope` variables.
-fn fault_of_term(row: Row, depth: u32, scope: u32) -> Option<RowFault>
-    ensures { result ≡ term_fault row depth scope }
-{
-    match row.kind {
-        VARIABLE..=LET if depth > MOST_DEPTH => Some(RowFault::Depth),
-        OBJECT if row.number < 0 || row.number > MOST_METHODS => Some(RowFault::MethodCount),
-        VARIABLE if row.number < 1 || row.number > scope as i64 => Some(RowFault::Index),
-        VARIABLE..=LET => None,
-        _ => Some(RowFault::Kind),
-    }
-}
-
-/// Whether the label is among these.
-fn holds(seen: &[u16], label: u16) -> bool
-    ensures { result ≡ has label seen.now }
-{
-    for x in seen {
-        if *x == label {
-            return true;
-        }
-    }
-    false
-}
-
-/// What is wrong with a row that begins a method at this depth, after methods of these labels.
-fn fault_of_method(row: Row, depth: u32, seen: &[u16]) -> Option<RowFault>
-    ensures { result ≡ method_fault row depth seen.now }
-{
-    match row.kind {
-        METHOD if depth > MOST_DEPTH => Some(RowFault::Depth),
-        METHOD if holds(seen, row.label) => Some(RowFault::LabelTwice),
-        METHOD => None,
-        _ => Some(RowFault::Kind),
-    }
-}
-
-/// Checks the term that begins at row `at`: where it ends, or the first fault.
-#[cycle(check_methods_check_term)]
-fn check_term(rows: &[Row], at: usize, depth: u32, scope: u32) -> Result<usize, Refusal>
-    requires within { at ≤ length rows.now }
-    requires few { length rows.now ≤ 65535 }
-    requires deep { depth ≤ 202 }
-    requires scoped { scope ≤ depth + 16 }
-    ensures place { IfOk result (λ next. (at < next) × (next ≤ length rows.now)) }
-    ensures walks { (ws : List Want) → walk (drop at rows.now) at (a_term depth scope ∷ ws) ≡ after result rows.now ws }
-{
-    if at >= rows.len() {
-        return Err(Refusal::AtRow(RowFault::Ends, at as u32));
-    }
-    let row = rows[at];
-    if let Some(fault) = fault_of_term(row, depth, scope) {
-        return Err(Refusal::AtRow(fault, at as u32));
-    }
-    match row.kind {
-        OBJECT => check_methods(rows, at + 1, row.number as u32, depth + 1, scope),
-        SELECT | CLONE => check_term(rows, at + 1, depth + 1, scope),
-        UPDATE | LET => {
-            let body = check_term(rows, at + 1, depth + 1, scope)?;
-            check_term(rows, body, depth + 1, scope + 1)
-        }
-        _ => Ok(at + 1),
-    }
-}
-
-/// Checks the methods of an object, from row `from` on.
-#[cycle(check_methods_check_term)]
-fn check_methods(
-    rows: &[Row],
-    from: usize,
-    count: u32,
+/// How deep a row lies, and under how many variables.
+#[derive(Clone, Copy)]
+struct Level {
     depth: u32,
     scope: u32,
-) -> Result<usize, Refusal>
-    requires within { from ≤ length rows.now }
-    requires few { length rows.now ≤ 65535 }
-    requires counted { count ≤ 64 }
-    requires deep { depth ≤ 201 }
-    requires scoped { scope ≤ depth + 16 }
-    ensures place { IfOk result (λ next. (from ≤ next) × (next ≤ length rows.now)) }
-    ensures walks { (ws : List Want) → walk (drop from rows.now) from (methods count depth scope [] ++ ws) ≡ after result rows.now ws }
-{
-    let mut seen = [0u16; 64];
-    let mut at = from;
-    for k in 0..count as usize {
-        if at >= rows.len() {
-            return Err(Refusal::AtRow(RowFault::Ends, at as u32));
-        }
-        let row = rows[at];
-        if let Some(fault) = fault_of_method(row, depth, &seen[0..k]) {
-            return Err(Refusal::AtRow(fault, at as u32));
-        }
-        seen[k] = row.label;
-        at = check_term(rows, at + 1, depth + 1, scope + 1)?;
-    }
-    Ok(at)
+    ghost deep: { depth ≤ 201 },
+    ghost scoped: { scope ≤ depth + 16 },
 }
 
-/// What the rows take of each code table.
-fn sizes_of(rows: &[Row]) -> Counts
-    requires { length rows.now ≤ 65535 }
-    ensures { result ≡ row_sizes rows.now }
-{
-    let mut contents = 1u32;
-    let mut operations = 0u32;
-    let mut methods = 0u32;
-    for row in rows {
-        match row.kind {
-            METHOD => {
-                contents += 1;
-                methods += 1;
-            }
-            LET | UPDATE => {
-                contents += 1;
-                operations += 1;
-            }
-            _ => operations += 1,
+impl Level {
+    /// The level of a part, under the same variables.
+    fn part(self) -> Level
+        requires { self.depth ≤ 200 }
+        ensures { (result.depth ≡ self.depth + 1) × (result.scope ≡ self.scope) }
+    {
+        Level {
+            depth: self.depth + 1,
+            scope: self.scope,
         }
     }
-    Counts {
-        contents,
-        operations,
-        methods,
+
+    /// The level of a body, under one variable more.
+    fn body(self) -> Level
+        requires { self.depth ≤ 200 }
+        ensures { (result.depth ≡ self.depth + 1) × (result.scope ≡ self.scope + 1) }
+    {
+        Level {
+            depth: self.depth + 1,
+            scope: self.scope + 1,
+        }
+    }
+}
+
+/// The kind of a row that begins a term at this level, or what is wrong with it.
+fn term_kind(row: Row, level: Level) -> Result<RowKind, RowFault>
+    ensures { MatchResult result
+        (λ kind. (kind_number kind ≡ row.kind) × (term_fault row level.depth level.scope ≡ None))
+        (λ fault. term_fault row level.depth level.scope ≡ Some fault) }
+{
+    match RowKind::try_from(row.kind) {
+        Err(_) | Ok(RowKind::Method) => Err(RowFault::Kind),
+        _ if level.depth > MOST_DEPTH => Err(RowFault::Depth),
+        Ok(RowKind::Object) if row.number < 0 || row.number > MOST_METHODS => {
+            Err(RowFault::MethodCount)
+        }
+        Ok(RowKind::Variable) if row.number < 1 || row.number > level.scope as i64 => {
+            Err(RowFault::Index)
+        }
+        Ok(kind) => Ok(kind),
+    }
+}
+
+/// The label of a row that begins a method at this level, after methods of these labels, or what is wrong with it.
+fn method_label(row: Row, level: Level, seen: &[u16]) -> Result<u16, RowFault>
+    ensures { MatchResult result
+        (λ label. (label ≡ row.label) × (method_fault row level.depth seen.now ≡ None))
+        (λ fault. method_fault row level.depth seen.now ≡ Some fault) }
+{
+    match RowKind::try_from(row.kind) {
+        Ok(RowKind::Method) if level.depth > MOST_DEPTH => Err(RowFault::Depth),
+        Ok(RowKind::Method) if seen.contains(&row.label) => Err(RowFault::LabelTwice),
+        Ok(RowKind::Method) => Ok(row.label),
+        _ => Err(RowFault::Kind),
+    }
+}
+
+/// Rows that are few enough to be checked.
+#[derive(Clone, Copy)]
+struct Table<'a> {
+    rows: &'a [Row],
+    ghost few: { length rows.now ≤ 65535 },
+}
+
+impl Table<'_> {
+    /// The row at `at`, or that the rows end there.
+    fn row(&self, at: usize) -> Result<Row, Refusal>
+        requires { at ≤ length self.now.rows.now }
+        ensures { MatchResult result
+            (λ row. (at < length self.now.rows.now) × (drop at self.now.rows.now ≡ row ∷ drop (at + 1) self.now.rows.now))
+            (λ refusal. (refusal ≡ AtRow Ends at) × (drop at self.now.rows.now ≡ [])) }
+    {
+        match self.rows.get(at) {
+            Some(row) => Ok(*row),
+            None => Err(Refusal::AtRow(RowFault::Ends, at as u32)),
+        }
+    }
+
+    /// Checks the term that begins at row `at`: where it ends, or the first fault.
+    #[cycle(check_methods_check_term)]
+    fn check_term(&self, at: usize, level: Level) -> Result<usize, Refusal>
+        requires { at ≤ length self.now.rows.now }
+        ensures place { IfOk result (λ next. (at < next) × (next ≤ length self.now.rows.now)) }
+        ensures walks { (ws : List Want) → walk (drop at self.now.rows.now) at (a_term level.depth level.scope ∷ ws) ≡ after result self.now.rows.now ws }
+    {
+        let row = self.row(at)?;
+        let kind = term_kind(row, level).map_err(|fault| Refusal::AtRow(fault, at as u32))?;
+        match kind {
+            RowKind::Object => self.check_methods(at + 1, row.number as u32, level.part()),
+            RowKind::Select | RowKind::Clone => self.check_term(at + 1, level.part()),
+            RowKind::Update | RowKind::Let => {
+                let body = self.check_term(at + 1, level.part())?;
+                self.check_term(body, level.body())
+            }
+            _ => Ok(at + 1),
+        }
+    }
+
+    /// Checks the methods of an object, from row `from` on.
+    #[cycle(check_methods_check_term)]
+    fn check_methods(&self, from: usize, count: u32, level: Level) -> Result<usize, Refusal>
+        requires within { from ≤ length self.now.rows.now }
+        requires counted { count ≤ 64 }
+        ensures place { IfOk result (λ next. (from ≤ next) × (next ≤ length self.now.rows.now)) }
+        ensures walks { (ws : List Want) → walk (drop from self.now.rows.now) from (methods count level.depth level.scope [] ++ ws) ≡ after result self.now.rows.now ws }
+    {
+        // The first `k` are the labels so far: an array of the most there can be, since nothing is allocated here.
+        let mut seen = [0u16; 64];
+        let mut at = from;
+        for k in 0..count as usize {
+            let row = self.row(at)?;
+            let label = method_label(row, level, &seen[..k]);
+            seen[k] = label.map_err(|fault| Refusal::AtRow(fault, at as u32))?;
+            at = self.check_term(at + 1, level.body())?;
+        }
+        Ok(at)
+    }
+
+    /// What the rows take of each code table.
+    fn sizes(&self) -> Counts
+        ensures { result ≡ row_sizes self.now.rows.now }
+    {
+        let mut sizes = Counts {
+            contents: 1,
+            ..Counts::default()
+        };
+        for row in self.rows {
+            match RowKind::try_from(row.kind) {
+                Ok(RowKind::Method) => {
+                    sizes.contents += 1;
+                    sizes.methods += 1;
+                }
+                Ok(RowKind::Let | RowKind::Update) => {
+                    sizes.contents += 1;
+                    sizes.operations += 1;
+                }
+                _ => sizes.operations += 1,
+            }
+        }
+        sizes
     }
 }
 
@@ -152,15 +180,20 @@ pub fn check_rows(rows: &[Row], givens: u32) -> Result<Counts, Refusal>
     ensures accepts { Accepts rows.now givens result }
     ensures first { FirstFault rows.now givens result }
 {
-    if rows.len() == 0 || rows.len() > MOST_ROWS {
+    if rows.is_empty() || rows.len() > MOST_ROWS {
         return Err(Refusal::RowCount);
     }
     if givens > MOST_GIVENS {
         return Err(Refusal::GivenCount);
     }
-    let end = check_term(rows, 0, 1, givens)?;
+    let table = Table { rows };
+    let outermost = Level {
+        depth: 1,
+        scope: givens,
+    };
+    let end = table.check_term(0, outermost)?;
     if end < rows.len() {
         return Err(Refusal::AtRow(RowFault::Left, end as u32));
     }
-    Ok(sizes_of(rows))
+    Ok(table.sizes())
 }
