@@ -47,7 +47,7 @@ impl<'a, S: Store> Session<'a, S> {
         ensures store { S.meaning self.new.store ≡ S.meaning self.old.store }
         ensures step { Whole S.Store.meaning self.old → Step S.Store.meaning (call.compile rows.now givens) self.old result self.new }
     {
-        compile(rows, givens, &mut self.area.tables, &mut self.area.counts)
+        compile(rows, givens, &mut self.area)
     }
 
     /// Starts a program with its givens and an allowance of reductions.
