@@ -54,8 +54,7 @@ impl<'a, S: Store> Session<'a, S> {
     pub fn start(&mut self, program: u32, givens: &[Value], allowance: u32) -> Result<(), Refusal>
         ensures answer { result ≡ start_answer self.old.area.tables self.old.area.counts (state_of self.old.machine) (S.meaning self.old.store) program givens.now }
         ensures state { state_of self.new.machine ≡ start_state self.old.area.tables self.old.area.counts (state_of self.old.machine) (S.meaning self.old.store) program givens.now allowance }
-        ensures tables { self.new.area.tables ≡ self.old.area.tables }
-        ensures counts { self.new.area.counts ≡ self.old.area.counts }
+        ensures area { self.new.area ≡ self.old.area }
         ensures store { S.meaning self.new.store ≡ S.meaning self.old.store }
         ensures step { Whole S.Store.meaning self.old → Step S.Store.meaning (call.start program givens.now allowance) self.old result self.new }
     {
@@ -68,8 +67,7 @@ impl<'a, S: Store> Session<'a, S> {
         ensures answer { result ≡ (run_outcome n self.old.area.tables self.old.area.counts (state_of self.old.machine) (S.meaning self.old.store)).answer }
         ensures state { state_of self.new.machine ≡ (run_outcome n self.old.area.tables self.old.area.counts (state_of self.old.machine) (S.meaning self.old.store)).state }
         ensures store { S.meaning self.new.store ≡ (run_outcome n self.old.area.tables self.old.area.counts (state_of self.old.machine) (S.meaning self.old.store)).store }
-        ensures tables { self.new.area.tables ≡ self.old.area.tables }
-        ensures counts { self.new.area.counts ≡ self.old.area.counts }
+        ensures area { self.new.area ≡ self.old.area }
         ensures step { Whole S.Store.meaning self.old → Step S.Store.meaning (call.run n) self.old result self.new }
     {
         self.machine.run(&self.area, &mut self.store, n)
