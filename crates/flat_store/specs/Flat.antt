@@ -6,8 +6,8 @@ use Rattle.flat_store.specs.declared.table.FlatStore.{FlatStore}
 -- each object has the methods in its span
 abbrev pub flat_meaning : FlatStore → Meaning
 flat_meaning s = record {
-  objects = objects_in (λ e. e) s.objects.now s.object_count s.methods.now;
-  object_limit = s.object_limit;
-  method_limit = s.method_limit;
+  objects = objects_in (λ e. e) s.areas.objects.now s.areas.object_count s.areas.methods.now;
+  object_limit = s.areas.object_limit;
+  method_limit = s.areas.method_limit;
   trial = no_trial;
 }

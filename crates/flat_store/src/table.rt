@@ -1,25 +1,13 @@
-//! The flat store's two areas.
-ghost use Rattle.std.specs.Prelude.{◌≡◌, ℕ, ◌≤◌, true, length};
+//! What a flat store holds.
+ghost use Rattle.std.specs.Prelude.{◌≡◌, true};
 ghost use Rattle.flat_store.specs.Layout.{laid_out as areas_laid_out};
 
-use store::closures::Method;
+use store::areas::Areas;
 use store::layout::Span;
 
-/// A store over two lent areas. The first `object_count` spans are those of the objects, one after the other from the front of the
-/// method area; the first `method_count` methods are theirs.
+/// A store whose entries are the spans of the objects' methods, one after the other from the front of the method area.
 #[derive(Drop)]
 pub struct FlatStore<'a> {
-    pub(crate) objects: &'a mut [Span],
-    pub(crate) methods: &'a mut [Method],
-    pub(crate) object_limit: u32,
-    pub(crate) method_limit: u32,
-    pub(crate) object_count: u32,
-    pub(crate) method_count: u32,
-    ghost object_room: { object_limit ≤ length objects.now },
-    ghost method_room: { method_limit ≤ length methods.now },
-    ghost objects_small: { object_limit ≤ 1048576 },
-    ghost methods_small: { method_limit ≤ 1048576 },
-    ghost objects_fit: { object_count ≤ object_limit },
-    ghost methods_fit: { method_count ≤ method_limit },
-    ghost laid_out: { areas_laid_out objects.now object_count method_count ≡ true },
+    pub(crate) areas: Areas<'a, Span>,
+    ghost laid_out: { areas_laid_out areas.objects.now areas.object_count areas.method_count ≡ true },
 }

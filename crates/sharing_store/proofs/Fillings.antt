@@ -1,5 +1,5 @@
 -- One object is filled.
-use Rattle.std.proofs.Common.{◌≡◌, ℕ, ◌+◌, ◌<◌, ◌≤◌, true, ◌≢◌, ◌⊎◌, List, [], length, set, sym, ap, ◌∙◌, subst, inl, inr, ⊎_elim, arith, length-set, get_or-set_other, get_or-set_same}
+use Rattle.std.proofs.Common.{◌≡◌, ℕ, ◌<◌, ◌≤◌, true, ◌≢◌, ◌⊎◌, List, [], length, set, sym, ap, ◌∙◌, subst, inl, inr, ⊎_elim, arith, length-set, get_or-set_other, get_or-set_same}
 use lib.Seq.{paste}
 use Rattle.std.proofs.lemmas.Bool.{cases_eq}
 use Rattle.store.specs.declared.closures.Method.{Method}
@@ -10,7 +10,7 @@ use Rattle.store.proofs.Writes.{cut_before, cut_after, cut_new}
 use Rattle.sharing_store.specs.declared.entries.SharedEntry.{SharedEntry}
 use Rattle.sharing_store.specs.Views.{no_entry, entry_at, own_span, held_span, laid_out, View, view, Filled, Sound}
 use Rattle.sharing_store.specs.States.{with_held}
-use Rattle.sharing_store.proofs.Spaces.{space_in, in_order, held_in_use, lie_apart}
+use Rattle.sharing_store.proofs.Spaces.{space_in, held_in_use, lie_apart}
 use Rattle.sharing_store.proofs.Steps.{refilled, refill}
 
 module _ (es : List SharedEntry) (ms : List Method) (n : ℕ) (fits : n ≤ length es) (end : ℕ) (ok : laid_out es n end ≡ true) (room : end ≤ length ms) (sd : Sound (view es) n) (l : ℕ) (lt : l < n) (un : Filled (view es) l → ⊥) where
@@ -25,18 +25,6 @@ module _ (es : List SharedEntry) (ms : List Method) (n : ℕ) (fits : n ≤ leng
 
   abbrev written : List Method
   written = paste ms (entry_at es l).first moved (entry_at es l).size
-
-  not_own_root : (entry_at es l).root ≢ l
-  not_own_root q = un (subst (λ (k : ℕ). Filled (view es) k) q (sd l lt).root_filled)
-
-  -- what it shares lies before its own space
-  pub from_before : (entry_at es l).held + (entry_at es l).size ≤ (entry_at es l).first
-  from_before =
-      let k = sd l lt in
-      let ne = not_own_root in
-      ⊎_elim (λ f. absurd (un f))
-      (λ f. omega (arith, f, k.root_size, in_order es n fits end ok (entry_at es l).root l (omega (arith, k.root_low)) lt))
-      k.held_in
 
   at_l : entry_at after l ≡ full
   at_l = get_or-set_same es l full no_entry (omega arith)

@@ -5,3 +5,6 @@ pub mod Fillings
 pub mod Walks
 pub mod More
 pub mod Told
+pub mod Changes
+pub mod Makes
+pub mod Clones

@@ -5,7 +5,7 @@ use Rattle.sharing_store.specs.declared.entries.SharedEntry.{SharedEntry}
 use Rattle.sharing_store.specs.declared.table.SharingStore.{SharingStore}
 use Rattle.sharing_store.specs.Views.{no_entry, entry_at, View, view, Filled, Sound}
 use Rattle.sharing_store.specs.States.{entry, shown, RootOf}
-use Rattle.sharing_store.proofs.Steps.{Agrees, push, past}
+use Rattle.sharing_store.proofs.Steps.{Agrees, push}
 use Rattle.sharing_store.proofs.Walks.{with_last, sd_of}
 
 -- the new object is one of its own
@@ -91,22 +91,19 @@ module _ (es : List SharedEntry) (n : ℕ) (room : n < length es) (new : SharedE
   pub put_lasts : (k : ℕ) → k < n → (entry_at (set es n new) k).last ≡ (entry_at es k).last
   put_lasts k lt = ap (λ (e : SharedEntry). e.last) (put_other k lt)
 
-  pub put_sound : Sound (view es) n → Sound (view (set es n new)) n
-  put_sound = past (view es) (view (set es n new)) n put_agrees put_lasts
-
   -- and becomes the last of those that share with r
   module _ (r : ℕ) (in_use : r < n) where
     abbrev pub joined : List SharedEntry
-    joined = set (set es n new) r (with_last (entry_at (set es n new) r) n)
+    joined = set (set es n new) r (with_last (entry_at es r) n)
 
     pub join_at : entry_at joined n ≡ new
-    join_at = get_or-set_other (set es n new) r n (with_last (entry_at (set es n new) r) n) no_entry (omega arith) ∙ put_at
+    join_at = get_or-set_other (set es n new) r n (with_last (entry_at es r) n) no_entry (omega arith) ∙ put_at
 
     join_root : entry_at joined r ≡ with_last (entry_at es r) n
-    join_root = get_or-set_same (set es n new) r (with_last (entry_at (set es n new) r) n) no_entry (omega (arith, length-set es n new)) ∙ ap (λ (e : SharedEntry). with_last e n) (put_other r in_use)
+    join_root = get_or-set_same (set es n new) r (with_last (entry_at es r) n) no_entry (omega (arith, length-set es n new))
 
     join_other : (k : ℕ) → k < n → k ≢ r → entry_at joined k ≡ entry_at es k
-    join_other k lt ne = get_or-set_other (set es n new) r k (with_last (entry_at (set es n new) r) n) no_entry ne ∙ put_other k lt
+    join_other k lt ne = get_or-set_other (set es n new) r k (with_last (entry_at es r) n) no_entry ne ∙ put_other k lt
 
     pub join_agrees : (k : ℕ) → k < n → Agrees (view es) (view joined) k
     join_agrees k lt = ⊎_elim
@@ -115,7 +112,7 @@ module _ (es : List SharedEntry) (n : ℕ) (room : n < length es) (new : SharedE
         (cases_eq k r)
 
     pub join_room : n < length joined
-    join_room = omega (arith, length-set es n new, length-set (set es n new) r (with_last (entry_at (set es n new) r) n))
+    join_room = omega (arith, length-set es n new, length-set (set es n new) r (with_last (entry_at es r) n))
 
     pub join_sound : new.root ≡ r → new.size ≡ (entry_at es r).size → new.held ≡ (entry_at es r).first → new.last ≡ n → new.previous ≡ (entry_at es r).last → Filled (view es) r → Sound (view es) n → Sound (view joined) (n + 1)
     join_sound root size held last previous full sd =
@@ -138,7 +135,7 @@ module _ (es : List SharedEntry) (n : ℕ) (room : n < length es) (new : SharedE
       (ap (λ (e : SharedEntry). e.last) put_at ∙ last)
       (ap (λ (e : SharedEntry). e.previous) put_at ∙ previous)
 
-module _ (s : SharingStore) (l : ℕ) (lt : l < s.object_count) where
+module _ (s : SharingStore) (l : ℕ) (lt : l < s.areas.object_count) where
   pub root_itself : Filled (shown s) l → RootOf s l l
   root_itself f = record { low = omega arith; root_filled = f; root_size = refl; root_first = f }
 

@@ -114,7 +114,3 @@ push v w n same lasts sd new k lt =
     (λ low. old v w n (n + 1) (omega arith) same (λ x h. ⊎_elim inl (λ q. inr (q.0, q.1, omega arith)) (lasts x h)) sd k low)
     (λ high. let q : n ≡ k = omega arith in subst (λ (x : ℕ). Linked w (n + 1) x) q new)
     (cases_lt k n)
-
--- what lies past the objects does not matter
-pub past : (v w : View) (n : ℕ) → ((k : ℕ) → k < n → Agrees v w k) → ((k : ℕ) → k < n → w.last k ≡ v.last k) → Sound v n → Sound w n
-past v w n same lasts sd k lt = old v w n n (omega arith) same (λ x h. inl (lasts x h)) sd k lt

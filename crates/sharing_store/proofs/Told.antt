@@ -17,23 +17,23 @@ module _ (s : SharingStore) where
   abbrev pub span : ℕ → Span
   span l = held_span (entry s l)
 
-  fits : s.object_count ≤ length s.objects.now
+  fits : s.areas.object_count ≤ length s.areas.objects.now
   fits = omega arith
 
-  pub own_fits : (l : ℕ) → l < s.object_count → (entry s l).first + (entry s l).size ≤ s.method_count
-  own_fits = space_in s.objects.now s.object_count fits s.method_count s.laid_out
+  pub own_fits : (l : ℕ) → l < s.areas.object_count → (entry s l).first + (entry s l).size ≤ s.areas.method_count
+  own_fits = space_in s.areas.objects.now s.areas.object_count fits s.areas.method_count s.laid_out
 
-  pub held_fits : (l : ℕ) → l < s.object_count → (entry s l).held + (entry s l).size ≤ s.method_count
-  held_fits = held_in_use s.objects.now s.object_count fits s.method_count s.laid_out (sd_of s)
+  pub held_fits : (l : ℕ) → l < s.areas.object_count → (entry s l).held + (entry s l).size ≤ s.areas.method_count
+  held_fits = held_in_use s.areas.objects.now s.areas.object_count fits s.areas.method_count s.laid_out (sd_of s)
 
-  pub told : Tells (sharing_meaning s) s.object_count s.method_count span s.methods.now
-  told = tells_of no_entry own_span held_span (λ e. refl) s.objects.now s.object_count fits s.methods.now s.method_count s.laid_out (omega arith) held_fits s.object_limit s.method_limit
+  pub told : Tells (sharing_meaning s) s.areas.object_count s.areas.method_count span s.areas.methods.now
+  told = tells_of no_entry own_span held_span (λ e. refl) s.areas.objects.now s.areas.object_count fits s.areas.methods.now s.areas.method_count s.laid_out (omega arith) held_fits s.areas.object_limit s.areas.method_limit
 
   -- a write to one method of an object that shares with none
-  pub set_one : (l : ℕ) → l < s.object_count → (p : ℕ) → p < (entry s l).size → Filled (shown s) l → ((x : ℕ) → x < s.object_count → (entry s x).root ≡ l → Filled (shown s) x) → (v : Method) → objects_in held_span s.objects.now s.object_count (set s.methods.now ((entry s l).held + p) v) ≡ set (sharing_meaning s).objects l (set (part s.methods.now (span l)) p v)
+  pub set_one : (l : ℕ) → l < s.areas.object_count → (p : ℕ) → p < (entry s l).size → Filled (shown s) l → ((x : ℕ) → x < s.areas.object_count → (entry s x).root ≡ l → Filled (shown s) x) → (v : Method) → objects_in held_span s.areas.objects.now s.areas.object_count (set s.areas.methods.now ((entry s l).held + p) v) ≡ set (sharing_meaning s).objects l (set (part s.areas.methods.now (span l)) p v)
   set_one l lt p low full alone v =
-      one_set no_entry s.objects.now s.object_count fits own_span held_span s.methods.now l p lt low
-      (λ k lt' other. rw full (lie_apart s.objects.now s.object_count fits s.method_count s.laid_out (sd_of s) k l lt' lt other (alone k lt')))
+      one_set no_entry s.areas.objects.now s.areas.object_count fits own_span held_span s.areas.methods.now l p lt low
+      (λ k lt' other. rw full (lie_apart s.areas.objects.now s.areas.object_count fits s.areas.method_count s.laid_out (sd_of s) k l lt' lt other (alone k lt')))
       v
 
 -- an entry that shows the same holds the same

@@ -1,29 +1,27 @@
 -- The walk over the clones that share with an object, and the end of it.
 use Rattle.std.proofs.Common.{◌≡◌, ℕ, ◌<◌, ◌≤◌, true, ◌≢◌, ◌⊎◌, List, [], length, set, sym, refl, ap, ◌∙◌, subst, inl, inr, ⊎_elim, arith, length-set, get_or-set_other, get_or-set_same}
 use lib.Seq.{set-get_or}
-use Rattle.std.proofs.lemmas.List.Edits.{paste_none}
 use Rattle.std.proofs.lemmas.Bool.{cases_eq, cases_order}
+use Rattle.store.specs.declared.areas.Areas.{Areas}
 use Rattle.store.specs.declared.closures.Method.{Method}
+use Rattle.store.specs.Areas.{SameCounts}
 use Rattle.store.specs.Layout.{part, laid, objects_in}
 use Rattle.store.proofs.Objects.{same_map}
 use Rattle.store.proofs.Spans.{no_span}
 use Rattle.sharing_store.specs.declared.entries.SharedEntry.{SharedEntry}
 use Rattle.sharing_store.specs.declared.table.SharingStore.{SharingStore}
 use Rattle.sharing_store.specs.Views.{no_entry, entry_at, own_span, held_span, laid_out, View, view, Filled, Sound}
-use Rattle.sharing_store.specs.States.{entry, shown, with_held, SameCounts, OnlyFills, Fills, Walked, Written}
+use Rattle.sharing_store.specs.States.{entry, shown, with_held, OnlyFills, Fills, Walked}
 use Rattle.sharing_store.proofs.Steps.{relisted, unlist}
 use Rattle.sharing_store.proofs.Sounds.{sound_tells}
 
-pub same_counts : (s : SharingStore) → SameCounts s s
+pub same_counts : (s : Areas SharedEntry) → SameCounts s s
 same_counts s = record { object_count_is = refl; method_count_is = refl; object_limit_is = refl; method_limit_is = refl }
 
-pub none_yet : (s : SharingStore) (at : ℕ) (ms : List Method) → Written s s at ms 0
-none_yet s at ms = record { methods_are = paste_none s.methods.now at ms; entries_are = refl; counts = same_counts s }
-
 pub fills_none : (s : SharingStore) → OnlyFills s s
-fills_none s = record { counts = same_counts s; objects_are = refl; entries_are = λ k. refl; stay_filled = λ k f. f }
+fills_none s = record { counts = same_counts s.areas; objects_are = refl; entries_are = λ k. refl; stay_filled = λ k f. f }
 
-pub counts_then : (s t u : SharingStore) → SameCounts s t → SameCounts t u → SameCounts s u
+pub counts_then : (s t u : Areas SharedEntry) → SameCounts s t → SameCounts t u → SameCounts s u
 counts_then s t u a b = record {
   object_count_is = b.object_count_is ∙ a.object_count_is;
   method_count_is = b.method_count_is ∙ a.method_count_is;
@@ -33,16 +31,16 @@ counts_then s t u a b = record {
 
 pub fills_then : (s t u : SharingStore) → OnlyFills s t → OnlyFills t u → OnlyFills s u
 fills_then s t u a b = record {
-  counts = counts_then s t u a.counts b.counts;
+  counts = counts_then s.areas t.areas u.areas a.counts b.counts;
   objects_are = b.objects_are ∙ a.objects_are;
   entries_are = λ k. b.entries_are k ∙ ap (λ (e : SharedEntry). with_held e (entry u k).held) (a.entries_are k);
   stay_filled = λ k f. b.stay_filled k (a.stay_filled k f);
 }
 
-pub sd_of : (s : SharingStore) → Sound (shown s) s.object_count
-sd_of s = sound_tells s.objects.now s.object_count s.shares
+pub sd_of : (s : SharingStore) → Sound (shown s) s.areas.object_count
+sd_of s = sound_tells s.areas.objects.now s.areas.object_count s.shares
 
-pub walk_begins : (s : SharingStore) (l : ℕ) → l < s.object_count → Filled (shown s) l → Walked s s l (entry s l).last
+pub walk_begins : (s : SharingStore) (l : ℕ) → l < s.areas.object_count → Filled (shown s) l → Walked s s l (entry s l).last
 walk_begins s l lt f =
     let e = sd_of s l lt in
     record {
@@ -61,7 +59,7 @@ module _ (s t u : SharingStore) (l at : ℕ) (w : Walked s t l at) (f : Fills t 
   ours_still : (entry u at).root ≡ l
   ours_still = root_same at ∙ ⊎_elim (λ q. absurd (other q)) (λ q. q) w.ours
 
-  in_use_still : at < u.object_count
+  in_use_still : at < u.areas.object_count
   in_use_still = omega (arith, w.in_use, f.only.counts.object_count_is)
 
   pub falls : (entry u at).previous < at
@@ -86,7 +84,7 @@ module _ (s t u : SharingStore) (l at : ℕ) (w : Walked s t l at) (f : Fills t 
         idle = λ q. absurd (other (w.idle q).0);
       }
 
-pub walk_ends : (s t : SharingStore) (l : ℕ) → Walked s t l l → (k : ℕ) → k < t.object_count → (entry t k).root ≡ l → Filled (shown t) k
+pub walk_ends : (s t : SharingStore) (l : ℕ) → Walked s t l l → (k : ℕ) → k < t.areas.object_count → (entry t k).root ≡ l → Filled (shown t) k
 walk_ends s t l w k low q =
     ⊎_elim (λ f. f)
     (λ h. let same : l ≡ k = omega (arith, (sd_of t k low).root_low) in subst (λ (x : ℕ). Filled (shown t) x) same w.is_filled)

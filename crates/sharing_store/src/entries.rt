@@ -2,7 +2,7 @@
 
 /// Where an object's methods are reserved and where they stand, and with which objects it shares them. An object is filled once they
 /// stand where they are reserved; until then it has those of its root, which is filled.
-#[derive(Clone, Copy)]
+#[derive(Clone, Copy, Default)]
 pub struct SharedEntry {
     /// Where its own space begins in the method area.
     pub first: u32,

@@ -3,4 +3,5 @@
 
 pub mod calls;
 pub mod entries;
+mod spans;
 pub mod table;

@@ -1,5 +1,5 @@
 -- The search for a label, one method on.
-use Rattle.std.proofs.Common.{slice_get, ◌≡◌, ℕ, zero, suc, ◌+◌, ◌<◌, ◌≤◌, List, [], ◌∷◌, take, drop, Some, None, sym, refl, ap, ◌∙◌, zero-add, arith, eq-eqb, ne_eqb}
+use Rattle.std.proofs.Common.{slice_get, ◌≡◌, ℕ, zero, suc, ◌+◌, ◌<◌, ◌≤◌, List, [], ◌∷◌, drop, Some, None, sym, refl, ap, ◌∙◌, zero-add, arith, eq-eqb, ne_eqb}
 use Rattle.std.proofs.lemmas.List.{length-take}
 use Rattle.std.proofs.lemmas.Bool.{cond-true, cond-false}
 use Rattle.std.proofs.lemmas.Option.{slice_get_past}
@@ -7,10 +7,11 @@ use Rattle.store.specs.declared.closures.Method.{Method}
 use Rattle.store.specs.declared.layout.Span.{Span}
 use Rattle.store.specs.Layout.{part}
 use Rattle.store.specs.Meaning.{place_from}
+use Rattle.store.proofs.Nth.{nth_take}
 
 module _ {X : Type 0} where
   drop_suc : (xs : List X) (i : ℕ) (x : X) → Some x ≡ slice_get xs i → drop i xs ≡ x ∷ drop (suc i) xs
-  drop_suc [] i x h = absurd (let z : ◌≡◌ {A = ℕ} 0 1 = cc in omega arith)
+  drop_suc [] i x h = absurd cc
   drop_suc (y ∷ xs) zero x h = let e : x ≡ y = cc in sym (ap (λ z. z ∷ xs) e)
   drop_suc (y ∷ xs) (suc i) x h = drop_suc xs i x h
 
@@ -20,7 +21,7 @@ module _ {X : Type 0} where
   drop_none : (xs : List X) (i : ℕ) → None ≡ slice_get xs i → drop i xs ≡ []
   drop_none [] zero h = refl
   drop_none [] (suc i) h = refl
-  drop_none (y ∷ xs) zero h = absurd (let z : ◌≡◌ {A = ℕ} 0 1 = cc in omega arith)
+  drop_none (y ∷ xs) zero h = absurd cc
   drop_none (y ∷ xs) (suc i) h = drop_none xs i h
 
   nth_drop : (xs : List X) (k i : ℕ) → slice_get xs (k + i) ≡ slice_get (drop k xs) i
@@ -28,15 +29,9 @@ module _ {X : Type 0} where
   nth_drop [] (suc k) i = refl
   nth_drop (x ∷ xs) (suc k) i = let e : suc k + i ≡ suc (k + i) = omega arith in ap (slice_get (x ∷ xs)) e ∙ nth_drop xs k i
 
-  nth_take : (n : ℕ) (xs : List X) (i : ℕ) → i < n → slice_get xs i ≡ slice_get (take n xs) i
-  nth_take zero xs i h = absurd (omega arith)
-  nth_take (suc n) [] i h = refl
-  nth_take (suc n) (x ∷ xs) zero h = refl
-  nth_take (suc n) (x ∷ xs) (suc i) h = nth_take n xs i (omega arith)
-
 -- a method of a span is one of the area
 pub nth_part : (ms : List Method) (s : Span) (p : ℕ) → p < s.size → slice_get ms (s.first + p) ≡ slice_get (part ms s) p
-nth_part ms s p h = nth_drop ms s.first p ∙ nth_take s.size (drop s.first ms) p h
+nth_part ms s p h = nth_drop ms s.first p ∙ sym (nth_take s.size (drop s.first ms) p h)
 
 module _ (ms : List Method) (s : Span) (x i : ℕ) (inv : place_from i (drop i (part ms s)) x ≡ place_from 0 (part ms s) x) where
   none_there : None ≡ slice_get (part ms s) i → None ≡ place_from 0 (part ms s) x

@@ -5,3 +5,4 @@ pub mod Spans
 pub mod Writes
 pub mod Tells
 pub mod Objects
+pub mod Asked

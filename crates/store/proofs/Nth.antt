@@ -1,22 +1,16 @@
 -- What stands at a place after a write, and after one entry more.
-use Rattle.std.proofs.Common.{slice_get, ◌≡◌, ℕ, zero, suc, ◌<◌, ◌≤◌, ◌≢◌, List, [], ◌∷◌, ◌++◌, length, set, Some, None, Option, sym, refl, ap, arith}
+use Rattle.std.proofs.Common.{slice_get, ◌≡◌, ℕ, zero, suc, ◌<◌, ◌≤◌, ◌≢◌, List, [], ◌∷◌, ◌++◌, length, take, set, Some, None, refl, ap, arith}
+
+pub use Rattle.std.proofs.lemmas.Option.{slice_get_within as nth_some}
 
 module _ {X : Type 0} where
-  pub some_none : (x : X) → ◌≡◌ {A = Option X} (Some x) None → ⊥
-  some_none x h = let z : ◌≡◌ {A = ℕ} 0 1 = cc in absurd (omega arith)
-
-  pub nth_some : (xs : List X) (i : ℕ) (x : X) → slice_get xs i ≡ Some x → i < length xs
-  nth_some [] i x h = absurd (some_none x (sym h))
-  nth_some (y ∷ xs) zero x h = omega arith
-  nth_some (y ∷ xs) (suc i) x h = let r = nth_some xs i x h in omega arith
-
   pub nth_none : (xs : List X) (i : ℕ) → slice_get xs i ≡ None → length xs ≤ i
   nth_none [] i h = omega arith
-  nth_none (y ∷ xs) zero h = absurd (some_none y h)
+  nth_none (y ∷ xs) zero h = absurd cc
   nth_none (y ∷ xs) (suc i) h = let r = nth_none xs i h in omega arith
 
   pub nth_set : (xs : List X) (i : ℕ) (x y : X) → slice_get xs i ≡ Some x → slice_get (set xs i y) i ≡ Some y
-  nth_set [] i x y h = absurd (some_none x (sym h))
+  nth_set [] i x y h = absurd cc
   nth_set (z ∷ xs) zero x y h = refl
   nth_set (z ∷ xs) (suc i) x y h = nth_set xs i x y h
 
@@ -35,3 +29,9 @@ module _ {X : Type 0} where
   pub nth_push : (xs : List X) (y : X) → slice_get (xs ++ y ∷ []) (length xs) ≡ Some y
   nth_push [] y = refl
   nth_push (x ∷ xs) y = nth_push xs y
+
+  pub nth_take : (n : ℕ) (xs : List X) (i : ℕ) → i < n → slice_get (take n xs) i ≡ slice_get xs i
+  nth_take zero xs i h = absurd (omega arith)
+  nth_take (suc n) [] i h = refl
+  nth_take (suc n) (x ∷ xs) zero h = refl
+  nth_take (suc n) (x ∷ xs) (suc i) h = nth_take n xs i (omega arith)

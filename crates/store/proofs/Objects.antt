@@ -1,10 +1,10 @@
 -- The objects of a store, by the spans of its entries. An entry has the span that is reserved for its object (`own`) and the one where
 -- its methods stand (`span`); in a flat store the two are one.
-use Rattle.std.proofs.Common.{slice_get, ◌≡◌, ℕ, suc, ◌+◌, ◌<◌, ◌≤◌, true, ◌≢◌, ◌⊎◌, List, [], ◌∷◌, ◌++◌, map, length, get_or, take, set, Some, None, sym, refl, ap, ◌∙◌, subst, ⊎_elim, arith, length-set, length-take-le, get_or-set_other, get_or-take, get_or-set_same}
+use Rattle.std.proofs.Common.{slice_get, ◌≡◌, ℕ, suc, ◌+◌, ◌<◌, ◌≤◌, true, ◌≢◌, ◌⊎◌, List, [], ◌∷◌, ◌++◌, map, length, get_or, take, set, Some, sym, refl, ap, ◌∙◌, subst, ⊎_elim, arith, length-set, length-take-le, get_or-set_other, get_or-take, get_or-set_same}
 use Rattle.std.proofs.lemmas.List.{get_or-map, length-map, ext_get_or, take_more, map_push}
 use Rattle.std.proofs.lemmas.Bool.{cases_eq}
 use Rattle.std.proofs.lemmas.Bool.Decides.{nat_tests}
-use Rattle.std.proofs.lemmas.Option.{slice_get_past, slice_get-get_or}
+use Rattle.std.proofs.lemmas.Option.{slice_get-get_or}
 use Rattle.store.specs.declared.closures.Method.{Method}
 use Rattle.store.specs.declared.layout.Span.{Span}
 use Rattle.store.specs.Layout.{part, laid, objects_in}
@@ -38,9 +38,6 @@ module _ {E : Type 0} (no : E) where
 
       pub is_there : (k : ℕ) → k < n → Some (f (at es k)) ≡ slice_get (map f (take n es)) k
       is_there k lt = ap Some (sym (get_d_in (f no) k lt)) ∙ sym (slice_get-get_or (map f (take n es)) k (f no) (omega (arith, length_in)))
-
-      pub not_there : (k : ℕ) → n ≤ k → None ≡ slice_get (map f (take n es)) k
-      not_there k le = sym (slice_get_past (map f (take n es)) k (omega (arith, length_in)))
 
     -- the spans that are reserved follow one another
     module _ (own : E → Span) (end : ℕ) (ok : laid 0 (map own (take n es)) end ≡ true) where
@@ -104,7 +101,6 @@ module _ {E : Type 0} (no : E) where
     count_is = length_in es n fits (λ e. part ms (span e));
     total_is = total_is es n fits own span same ms end ok (λ k lt. omega (arith, within k lt));
     object_at = is_there es n fits (λ e. part ms (span e));
-    none_at = not_there es n fits (λ e. part ms (span e));
     within = within;
     fits = room;
   }

@@ -1,9 +1,9 @@
 -- Spans that follow one another, and the parts of a method area.
-use Rattle.std.proofs.Common.{slice_get, ◌≡◌, ℕ, zero, suc, ◌+◌, ◌-◌, ◌<◌, ◌≤◌, true, List, [], ◌∷◌, ◌++◌, length, get_or, take, drop, set, Some, None, sym, ap, ◌∙◌, arith, length-drop, length-take, get_or-drop, get_or-take, drop-set-lt, eq-eqb}
+use Rattle.std.proofs.Common.{slice_get, ◌≡◌, ℕ, zero, suc, ◌+◌, ◌-◌, ◌<◌, ◌≤◌, true, List, [], ◌∷◌, ◌++◌, length, get_or, take, drop, set, None, sym, ap, ◌∙◌, arith, length-drop, length-take, get_or-drop, get_or-take, drop-set-lt, eq-eqb}
 use lib.Seq.{take-set-le, take-set-lt, drop-set-add}
 use Rattle.std.proofs.lemmas.Bool.{and_from}
 use Rattle.std.proofs.lemmas.Bool.Decides.{nat_tests}
-use Rattle.std.proofs.lemmas.Option.{slice_get_past, slice_get-get_or}
+use Rattle.std.proofs.lemmas.Option.{slice_get_past}
 use Rattle.store.specs.declared.closures.Method.{Method}
 use Rattle.store.specs.declared.layout.Span.{Span}
 use Rattle.store.specs.Layout.{part, laid}
@@ -57,9 +57,6 @@ module _ (ms : List Method) (s : Span) where
   get_d_part p d h = rw (get_or-take, get_or-drop)
 
   module _ (within : s.first + s.size ≤ length ms) (p : ℕ) where
-    pub method_there : p < s.size → Some (get_or ms (s.first + p) no_method) ≡ slice_get (part ms s) p
-    method_there lt = ap Some (sym (get_d_part p no_method lt)) ∙ sym (slice_get-get_or (part ms s) p no_method (omega (arith, length_part within)))
-
     pub no_method_there : s.size ≤ p → None ≡ slice_get (part ms s) p
     no_method_there le = sym (slice_get_past (part ms s) p (omega (arith, length_part within)))
 

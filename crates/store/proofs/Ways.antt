@@ -1,13 +1,12 @@
 -- What the definitions of the meaning come to, by what stands at a location and a place, and by the room that there is.
-use Rattle.std.proofs.Common.{slice_get, ◌≡◌, ℕ, ◌+◌, ◌<◌, ◌≤◌, List, [], ◌∷◌, ◌++◌, length, set, Some, None, Ok, Err, Option, Result, ap, ◌∙◌, arith}
-use Rattle.std.proofs.lemmas.Bool.Decides.{nat_tests}
+use Rattle.std.proofs.Common.{slice_get, ◌≡◌, ℕ, List, [], ◌∷◌, ◌++◌, set, Some, None, Ok, Err, Option, Result, ap, ◌∙◌}
 use Rattle.calculus.specs.Places.{if_some}
 use Rattle.store.specs.declared.closures.Closure.{Closure}
 use Rattle.store.specs.declared.closures.Method.{Method}
 use Rattle.store.specs.declared.closures.OldMethod.{OldMethod}
 use Rattle.store.specs.declared.faults.StoreFault.{StoreFault}
-use Rattle.store.specs.declared.faults.StoreFault.TheVariants.{ObjectsFull, MethodsFull, NoLocation, NoPlace}
-use Rattle.store.specs.Meaning.{Object, Meaning, total, at_location, at_place, room_for, added, with_closure, noted, updated}
+use Rattle.store.specs.declared.faults.StoreFault.TheVariants.{NoLocation, NoPlace}
+use Rattle.store.specs.Meaning.{Object, Meaning, at_location, at_place, added, with_closure, noted, updated}
 
 module _ {A : Type 0} (m : Meaning) (l : ℕ) (f : Object → Result A StoreFault) where
   pub located : (o : Object) → Some o ≡ slice_get m.objects l → f o ≡ at_location m l f
@@ -22,16 +21,6 @@ module _ {A : Type 0} (m : Meaning) (l p : ℕ) (f : Method → Result A StoreFa
 
   pub not_placed : None ≡ slice_get o p → Err NoPlace ≡ at_place m l p f
   not_placed k = ap (λ y. if_some y f (Err NoPlace)) k ∙ located m l (λ z. if_some (slice_get z p) f (Err NoPlace)) o h
-
-module _ (m : Meaning) (n : ℕ) where
-  pub has_room : length m.objects < m.object_limit → total m.objects + n ≤ m.method_limit → Ok (length m.objects) ≡ room_for m n
-  has_room h k = grind (arith, nat_tests)
-
-  pub no_objects : m.object_limit ≤ length m.objects → Err ObjectsFull ≡ room_for m n
-  no_objects h = grind (arith, nat_tests)
-
-  pub no_methods : length m.objects < m.object_limit → m.method_limit < total m.objects + n → Err MethodsFull ≡ room_for m n
-  no_methods h k = grind (arith, nat_tests)
 
 module _ (r : Result ℕ StoreFault) (o : Object) (os : List Object) where
   pub made : (l : ℕ) → Ok l ≡ r → os ++ o ∷ [] ≡ added r o os

@@ -1,14 +1,14 @@
 -- Methods written one by one from a place on: `paste d at s n` is d with the first n of s written from `at` on.
-use Rattle.std.proofs.Common.{◌≡◌, ℕ, ◌+◌, ◌-◌, ◌<◌, ◌≤◌, List, ◌++◌, length, get_or, take, drop, set, sym, ap, ◌∙◌, append_assoc, arith, length-take-le, take_all, get_or-take, take-take}
+use Rattle.std.proofs.Common.{◌≡◌, ℕ, ◌+◌, ◌-◌, ◌<◌, ◌≤◌, List, ◌++◌, length, get_or, take, drop, set, sym, ap, ◌∙◌, append_assoc, arith, length-take-le, take_all, take-take}
 use lib.Seq.{paste, take-append-le}
-use Rattle.std.proofs.lemmas.List.{get_or_append_left, get_or-map, length-map, drop-drop, drop-take, drop_at, take_at}
+use Rattle.std.proofs.lemmas.List.{get_or-map, length-map, drop-drop, drop-take, drop_at, take_at}
 use Rattle.std.proofs.lemmas.List.Edits.{paste_more, drop-paste}
 use Rattle.calculus.specs.declared.code.MethodEntry.{MethodEntry}
 use Rattle.store.specs.declared.closures.Method.{Method}
 use Rattle.store.specs.declared.layout.Span.{Span}
 use Rattle.store.specs.Layout.{part}
 use Rattle.store.specs.Meaning.{method_of, methods_of}
-use Rattle.store.proofs.Spans.{no_method, length_part, get_d_part}
+use Rattle.store.proofs.Spans.{no_method}
 
 -- one method more
 one_more : (d c : List Method) (at : ℕ) (s : List Method) (i : ℕ) (m : Method) → c ≡ paste d at s i → at + i < length d → i < length s → m ≡ get_or s i no_method → set c (at + i) m ≡ paste d at s (i + 1)
@@ -18,16 +18,6 @@ one_more d c at s i m e h k is = ap (λ l. set l (at + i) m) e ∙ ap (set (past
 pub entry_more : (d c : List Method) (at : ℕ) (es : List MethodEntry) (env i : ℕ) (x : MethodEntry) → c ≡ paste d at (methods_of es env) i → at + i < length d → i < length es → set c (at + i) (method_of env (get_or es i x)) ≡ paste d at (methods_of es env) (i + 1)
 entry_more d c at es env i x e h k =
     one_more d c at (methods_of es env) i _ e h (omega (arith, length-map es (method_of env))) (sym (get_or-map (method_of env) es i x no_method k))
-
--- the next method of a span in front
-pub copy_more : (d c : List Method) (at : ℕ) (s : Span) (i : ℕ) → c ≡ paste d at (part d s) i → s.first + s.size ≤ at → at + s.size ≤ length d → i < s.size → set c (at + i) (get_or c (s.first + i) no_method) ≡ paste d at (part d s) (i + 1)
-copy_more d c at s i e apart within lt =
-    let in_front : s.first + i < length (take at d) = omega (arith, length-take-le at d (omega arith)) in
-    one_more d c at (part d s) i _ e (omega arith) (omega (arith, length_part d s (omega arith)))
-    (ap (λ l. get_or l (s.first + i) no_method) (e ∙ append_assoc (take at d) (take i (part d s)) (drop (at + i) d))
-    ∙ get_or_append_left (take at d) (take i (part d s) ++ drop (at + i) d) no_method (s.first + i) in_front
-    ∙ get_or-take at d (s.first + i) no_method (omega arith)
-    ∙ sym (get_d_part d s i no_method lt))
 
 -- what a paste of the n methods of s leaves, and where it stands
 module _ (d : List Method) (at : ℕ) (s : List Method) (n : ℕ) (h : at ≤ length d) (long : n ≡ length s) where

@@ -11,6 +11,13 @@ fn closure(list: u32) -> Closure {
     Closure { list, env: 1 }
 }
 
+// The list of a method, or 0 where there is none.
+fn list_at<S: Store>(store: &S, location: u32, place: u32) -> u32 {
+    store
+        .method_at(location, place)
+        .map_or(0, |method| method.closure.list)
+}
+
 /// What is updated among an object and its clones.
 #[derive(Clone, Copy)]
 pub enum Updates {
@@ -34,10 +41,7 @@ pub fn clones<S: Store>(store: &mut S, count: u32, updates: Updates) -> u32 {
     if let Updates::Original = updates {
         let _ = store.update(0, 5, closure(count));
     }
-    match store.method_at(count, 63) {
-        Ok(method) => method.closure.list,
-        Err(_) => 0,
-    }
+    list_at(store, count, 63)
 }
 
 /// Sixteen objects that share with none, one more, and clones of that until there are `count`.
@@ -55,8 +59,5 @@ pub fn lone_updates<S: Store>(store: &mut S, count: u32) -> u32 {
     for i in 0..count {
         let _ = store.update(i % 16, i % 4, closure(i));
     }
-    match store.method_at(3, 3) {
-        Ok(method) => method.closure.list,
-        Err(_) => 0,
-    }
+    list_at(store, 3, 3)
 }

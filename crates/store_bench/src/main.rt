@@ -9,30 +9,12 @@ use sharing_store::entries::SharedEntry;
 use sharing_store::table::SharingStore;
 use std::time::Instant;
 use std::{env, io};
-use store::closures::{Closure, Method};
+use store::closures::Method;
 use store::layout::Span;
 
 const ROUNDS: u32 = 4000;
 
 const UPDATES: u32 = 10_000_000;
-
-fn no_method() -> Method {
-    Method {
-        label: 0,
-        closure: Closure { list: 0, env: 0 },
-    }
-}
-
-fn no_entry() -> SharedEntry {
-    SharedEntry {
-        first: 0,
-        size: 0,
-        held: 0,
-        root: 0,
-        last: 0,
-        previous: 0,
-    }
-}
 
 // The microseconds since the start.
 fn since(rt: &HostRuntime, start: Instant) -> io::Result<u64> {
@@ -45,49 +27,24 @@ fn since(rt: &HostRuntime, start: Instant) -> io::Result<u64> {
     )
 }
 
-fn flat_rounds(spans: &mut [Span], methods: &mut [Method], updates: Updates) -> u32 {
+// What so many rounds take, each with the answer of a load.
+fn rounds<F: FnMut() -> u32>(rt: &HostRuntime, kind: &str, mut round: F) -> io::Result<u64>
+    requires { F.IsAlwaysCallable round }
+{
+    let start = Instant::now(rt)?;
     let mut sum = 0;
     for _ in 0..ROUNDS {
-        let mut store = FlatStore::new(&mut *spans, &mut *methods);
-        sum ^= clones(&mut store, 1000, updates);
+        sum ^= round();
     }
-    sum
-}
-
-fn sharing_rounds(entries: &mut [SharedEntry], methods: &mut [Method], updates: Updates) -> u32 {
-    let mut sum = 0;
-    for _ in 0..ROUNDS {
-        let mut store = SharingStore::new(&mut *entries, &mut *methods);
-        sum ^= clones(&mut store, 1000, updates);
-    }
-    sum
-}
-
-// What rounds of a thousand clones of an object of 64 methods take.
-fn flat_clones(rt: &HostRuntime, updates: Updates) -> io::Result<u64> {
-    let mut spans = [Span { first: 0, size: 0 }; 1001];
-    let mut methods = [no_method(); 64064];
-    let start = Instant::now(rt)?;
-    let sum = flat_rounds(&mut spans, &mut methods, updates);
     let spent = since(rt, start)?;
-    println!(rt; "  flat {spent} us (sum {sum})")?;
-    Ok(spent)
-}
-
-fn sharing_clones(rt: &HostRuntime, updates: Updates) -> io::Result<u64> {
-    let mut entries = [no_entry(); 1001];
-    let mut methods = [no_method(); 64064];
-    let start = Instant::now(rt)?;
-    let sum = sharing_rounds(&mut entries, &mut methods, updates);
-    let spent = since(rt, start)?;
-    println!(rt; "  sharing {spent} us (sum {sum})")?;
+    println!(rt; "  {kind} {spent} us (sum {sum})")?;
     Ok(spent)
 }
 
 // What updates of objects that share with none take, among so many objects.
 fn sharing_updates(rt: &HostRuntime, objects: u32) -> io::Result<u64> {
-    let mut entries = [no_entry(); 100_000];
-    let mut methods = [no_method(); 400_000];
+    let mut entries = [SharedEntry::default(); 100_000];
+    let mut methods = [Method::default(); 400_000];
     let mut store = SharingStore::new(&mut entries, &mut methods);
     lone_setup(&mut store, objects);
     let start = Instant::now(rt)?;
@@ -106,9 +63,17 @@ fn print_ratio(rt: &HostRuntime, first: u64, second: u64) -> io::Result<()> {
     println!(rt; "  ratio {percent} %")
 }
 
+// A thousand clones of an object of 64 methods, round by round in stores of both kinds.
 fn compare(rt: &HostRuntime, updates: Updates) -> io::Result<()> {
-    let flat = flat_clones(rt, updates)?;
-    let sharing = sharing_clones(rt, updates)?;
+    let mut methods = [Method::default(); 64064];
+    let mut spans = [Span::default(); 1001];
+    let flat = rounds(rt, "flat", || {
+        clones(&mut FlatStore::new(&mut spans, &mut methods), 1000, updates)
+    })?;
+    let mut entries = [SharedEntry::default(); 1001];
+    let sharing = rounds(rt, "sharing", || {
+        clones(&mut SharingStore::new(&mut entries, &mut methods), 1000, updates)
+    })?;
     print_ratio(rt, sharing, flat)
 }
 

@@ -7,11 +7,8 @@ use Rattle.store.specs.declared.closures.Method.{Method}
 use Rattle.store.specs.declared.faults.StoreFault.{StoreFault}
 use Rattle.store.specs.declared.faults.StoreFault.TheVariants.{ObjectsFull, MethodsFull, NoLocation, NoPlace}
 use Rattle.store.specs.Meaning.{Object, Meaning, total, place_from, size_of, room_for, added, methods_of, cloned_by, with_closure, put_closure, updated}
-use Rattle.store.proofs.Nth.{some_none, nth_some, nth_set, nth_set_other, nth_append, nth_push}
+use Rattle.store.proofs.Nth.{nth_some, nth_set, nth_set_other, nth_append, nth_push}
 use Rattle.store_laws.specs.Laws.{Labelled, FindsFirst, MakesLast, CopiesLast, UpdatesOne, ClonesApart}
-
-pub ok_err : {A : Type 0} (x : A) (e : StoreFault) → ◌≡◌ {A = Result A StoreFault} (Ok x) (Err e) → ⊥
-ok_err x e h = let z : ◌≡◌ {A = ℕ} 0 1 = cc in absurd (omega arith)
 
 -- what a method that is answered says of the objects
 abbrev pub read : List Object → ℕ → ℕ → Result Method StoreFault
@@ -19,11 +16,11 @@ read os l p = if_some (slice_get os l) (λ o. if_some (slice_get o p) (λ x. Ok 
 
 land_place : (o : Object) (p : ℕ) (x : Method) (y : Option Method) → slice_get o p ≡ y → if_some y (λ z. Ok z) (Err NoPlace) ≡ Ok x → slice_get o p ≡ Some x
 land_place o p x (Some z) h k = let e : z ≡ x = cc in h ∙ ap Some e
-land_place o p x None h k = absurd (ok_err x NoPlace (sym k))
+land_place o p x None h k = absurd cc
 
 land_by : (os : List Object) (l p : ℕ) (x : Method) (y : Option Object) → slice_get os l ≡ y → if_some y (λ o. if_some (slice_get o p) (λ z. Ok z) (Err NoPlace)) (Err NoLocation) ≡ Ok x → (o : Object) × (slice_get os l ≡ Some o) × (slice_get o p ≡ Some x)
 land_by os l p x (Some o) h k = (o, h, land_place o p x (slice_get o p) refl k)
-land_by os l p x None h k = absurd (ok_err x NoLocation (sym k))
+land_by os l p x None h k = absurd cc
 
 pub lands : (os : List Object) (l p : ℕ) (x : Method) → read os l p ≡ Ok x → (o : Object) × (slice_get os l ≡ Some o) × (slice_get o p ≡ Some x)
 lands os l p x h = land_by os l p x (slice_get os l) refl h
@@ -57,21 +54,21 @@ first_by i m o x p false t rest h =
     (suc r.0, omega (arith, r.1), before m o x r.0 t r.2)
 
 first_in : (i : ℕ) (o : Object) (x p : ℕ) → place_from i o x ≡ Some p → (k : ℕ) × (p ≡ i + k) × First o x k
-first_in i [] x p h = absurd (some_none p (sym h))
+first_in i [] x p h = absurd cc
 first_in i (m ∷ o) x p h = first_by i m o x p (eqb m.label x) refl (first_in (i + 1) o x p) h
 
 none_by : (i : ℕ) (m : Method) (o : Object) (x : ℕ) (b : Bool) → eqb m.label x ≡ b → (place_from (i + 1) o x ≡ None → Without o x) → cond b (Some i) (place_from (i + 1) o x) ≡ None → Without (m ∷ o) x
-none_by i m o x true t rest h q y g f = some_none i h
+none_by i m o x true t rest h q y g f = absurd cc
 none_by i m o x false t rest h zero y g f = let e : m ≡ y = cc in eqb-false m.label x t (ap (λ z. z.label) e ∙ f)
 none_by i m o x false t rest h (suc q) y g f = rest h q y g f
 
 none_in : (i : ℕ) (o : Object) (x : ℕ) → place_from i o x ≡ None → Without o x
-none_in i [] x h q y g f = some_none y (sym g)
+none_in i [] x h q y g f = cc
 none_in i (m ∷ o) x h q y g f = none_by i m o x (eqb m.label x) refl (none_in (i + 1) o x) h q y g f
 
 find_by : (os : List Object) (l x : ℕ) (r : Option ℕ) (y : Option Object) → slice_get os l ≡ y → if_some y (λ o. Ok (place_from 0 o x)) (Err NoLocation) ≡ Ok r → (o : Object) × (slice_get os l ≡ Some o) × (place_from 0 o x ≡ r)
 find_by os l x r (Some o) h k = (o, h, cc)
-find_by os l x r None h k = absurd (ok_err r NoLocation (sym k))
+find_by os l x r None h k = absurd cc
 
 -- a labelled method is one of the object
 in_object : (m : Meaning) (l q x : ℕ) (o : Object) → slice_get m.objects l ≡ Some o → Labelled m l q x → (y : Method) × (slice_get o q ≡ Some y) × (y.label ≡ x)
@@ -99,8 +96,8 @@ finds_first m l x = (
 -- room
 room_ok : (n k : ℕ) (b d : Bool) → cond b (cond d (Ok n) (Err MethodsFull)) (Err ObjectsFull) ≡ Ok k → k ≡ n
 room_ok n k true true h = cc
-room_ok n k true false h = absurd (ok_err k MethodsFull (sym h))
-room_ok n k false d h = absurd (ok_err k ObjectsFull (sym h))
+room_ok n k true false h = absurd cc
+room_ok n k false d h = absurd cc
 
 located_last : (m : Meaning) (n k : ℕ) → room_for m n ≡ Ok k → k ≡ length m.objects
 located_last m n k h = room_ok (length m.objects) k (ltb (length m.objects) m.object_limit) (leb (total m.objects + n) m.method_limit) h
@@ -110,7 +107,7 @@ makes_last m es env k h = (located_last m (length es) k h, ap (λ r. added r (me
 
 copy_by : (m : Meaning) (l k : ℕ) (y : Option Object) → slice_get m.objects l ≡ y → if_some y (λ o. room_for m (length o)) (Err NoLocation) ≡ Ok k → (k ≡ length m.objects) × ((o : Object) × (slice_get m.objects l ≡ Some o) × (if_some y (λ o'. added (room_for m (length o')) o' m.objects) m.objects ≡ m.objects ++ o ∷ []))
 copy_by m l k (Some o) h r = (located_last m (length o) k r, (o, h, ap (λ x. added x o m.objects) r))
-copy_by m l k None h r = absurd (ok_err k NoLocation (sym r))
+copy_by m l k None h r = absurd cc
 
 pub copies_last : CopiesLast
 copies_last m l k h = copy_by m l k (slice_get m.objects l) refl h

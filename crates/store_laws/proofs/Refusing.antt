@@ -17,7 +17,7 @@ use Rattle.store_laws.specs.declared.runs.StoreCall.{StoreCall}
 use Rattle.store_laws.specs.declared.runs.StoreCall.TheVariants.{ObjectCount, ObjectLimit, MethodLimit, Size, MethodAt, Find, Make, Clone, Update}
 use Rattle.store_laws.specs.Runs.{told, entries_at, meaning_after, meaning_after_all}
 use Rattle.store_laws.specs.Laws.{MakesInRoom, ClonesInRoom, FindsPlaces, RefusedInPeace, touches, touched, StaysUntilUpdated}
-use Rattle.store_laws.proofs.Meant.{ok_err, read, lands, reads_there, updates_one}
+use Rattle.store_laws.proofs.Meant.{read, lands, reads_there, updates_one}
 
 rooms : (m : Meaning) (n : ℕ) →
     (m.object_limit ≤ length m.objects → room_for m n ≡ Err ObjectsFull)
@@ -31,10 +31,10 @@ makes_in_room m es = rooms m (length es)
 -- the copy of an object of n methods, by what stands there
 clone_by : (m : Meaning) (l n : ℕ) (y : Option Object) → slice_get m.objects l ≡ y → if_some y (λ o. Ok (length o)) (Err NoLocation) ≡ Ok n → clone_result m l ≡ room_for m n
 clone_by m l n (Some o) h k = let e : length o ≡ n = cc in ap (λ y. if_some y (λ z. room_for m (length z)) (Err NoLocation)) h ∙ ap (room_for m) e
-clone_by m l n None h k = absurd (ok_err n NoLocation (sym k))
+clone_by m l n None h k = absurd cc
 
 clone_none : (m : Meaning) (l : ℕ) (y : Option Object) → slice_get m.objects l ≡ y → if_some y (λ o. Ok (length o)) (Err NoLocation) ≡ Err NoLocation → clone_result m l ≡ Err NoLocation
-clone_none m l (Some o) h k = absurd (ok_err (length o) NoLocation k)
+clone_none m l (Some o) h k = absurd cc
 clone_none m l None h k = ap (λ y. if_some y (λ z. room_for m (length z)) (Err NoLocation)) h
 
 pub clones_in_room : ClonesInRoom
@@ -76,20 +76,20 @@ finds_places m l p x = (
 )
 
 -- a refused call changes nothing
-made_not : (m : Meaning) (o : Object) (e : StoreFault) (r : Result ℕ StoreFault) → told answer.Location r ≡ answer.Refused e → with_objects m (added r o m.objects) ≡ m
-made_not m o e (Ok k) h = absurd (let z : ◌≡◌ {A = ℕ} 0 1 = cc in omega arith)
+made_not : (m : Meaning) (o : Object) (e : StoreFault) (r : Result ℕ StoreFault) → told answer.Location r ≡ Err e → with_objects m (added r o m.objects) ≡ m
+made_not m o e (Ok k) h = absurd cc
 made_not m o e (Err f) h = refl
 
-cloned_not : (m : Meaning) (e : StoreFault) (y : Option Object) → told answer.Location (if_some y (λ o. room_for m (length o)) (Err NoLocation)) ≡ answer.Refused e → with_objects m (if_some y (λ o. added (room_for m (length o)) o m.objects) m.objects) ≡ m
+cloned_not : (m : Meaning) (e : StoreFault) (y : Option Object) → told answer.Location (if_some y (λ o. room_for m (length o)) (Err NoLocation)) ≡ Err e → with_objects m (if_some y (λ o. added (room_for m (length o)) o m.objects) m.objects) ≡ m
 cloned_not m e (Some o) h = made_not m o e (room_for m (length o)) h
 cloned_not m e None h = refl
 
 module _ (m : Meaning) (l p : ℕ) (c : Closure) (e : StoreFault) where
-  put_not : (o : Object) → slice_get m.objects l ≡ Some o → (y : Option Method) → slice_get o p ≡ y → told (λ _. answer.Updated) (if_some y (λ w. Ok (tt {0})) (Err NoPlace)) ≡ answer.Refused e → updated m l p c ≡ m
-  put_not o h (Some x) k r = absurd (let z : ◌≡◌ {A = ℕ} 0 1 = cc in omega arith)
+  put_not : (o : Object) → slice_get m.objects l ≡ Some o → (y : Option Method) → slice_get o p ≡ y → told (λ _. answer.Updated) (if_some y (λ w. Ok (tt {0})) (Err NoPlace)) ≡ Err e → updated m l p c ≡ m
+  put_not o h (Some x) k r = absurd cc
   put_not o h None k r = sym (no_update_here m l p c o (sym h) (sym k))
 
-  updated_not : (y : Option Object) → slice_get m.objects l ≡ y → told (λ _. answer.Updated) (if_some y (λ o. if_some (slice_get o p) (λ w. Ok (tt {0})) (Err NoPlace)) (Err NoLocation)) ≡ answer.Refused e → updated m l p c ≡ m
+  updated_not : (y : Option Object) → slice_get m.objects l ≡ y → told (λ _. answer.Updated) (if_some y (λ o. if_some (slice_get o p) (λ w. Ok (tt {0})) (Err NoPlace)) (Err NoLocation)) ≡ Err e → updated m l p c ≡ m
   updated_not (Some o) h r = put_not o h (slice_get o p) refl r
   updated_not None h r = sym (no_update_there m l p c (sym h))
 

@@ -6,7 +6,6 @@ use Rattle.store.specs.declared.closures.Method.{Method}
 use Rattle.store.specs.declared.faults.StoreFault.{StoreFault}
 use Rattle.store.specs.declared.faults.StoreFault.TheVariants.{ObjectsFull, MethodsFull, NoLocation, NoPlace}
 use Rattle.store.specs.Meaning.{Object, Meaning, total, size_of, method_at, find_in, make_result, made_by, methods_of, clone_result, cloned_by, with_closure, update_result, updated}
-use Rattle.store_laws.specs.declared.runs.StoreAnswer.TheVariants.{Refused}
 use Rattle.store_laws.specs.declared.runs.StoreCall.{StoreCall}
 use Rattle.store_laws.specs.declared.runs.StoreCall.TheVariants.{ObjectCount, ObjectLimit, MethodLimit, Size, MethodAt, Find, Make, Clone, Update}
 use Rattle.store_laws.specs.Runs.{answer_to, meaning_after, answers_to, meaning_after_all, Alike}
@@ -67,7 +66,7 @@ FindsPlaces = (m : Meaning) (l p : ℕ) (x : ℕ) →
 
 -- a call that is refused changes nothing
 abbrev pub RefusedInPeace : Type 0
-RefusedInPeace = (table : List MethodEntry) (m : Meaning) (c : StoreCall) (e : StoreFault) → answer_to table m c ≡ Refused e → meaning_after table m c ≡ m
+RefusedInPeace = (table : List MethodEntry) (m : Meaning) (c : StoreCall) (e : StoreFault) → answer_to table m c ≡ Err e → meaning_after table m c ≡ m
 
 -- a call that updates this place of this object
 abbrev pub touches : ℕ → ℕ → StoreCall → Bool

@@ -1,5 +1,5 @@
 -- What a store answers to a list of calls, and what it means after them.
-use Rattle.std.specs.Prelude.{◌≡◌, ℕ, ◌≤◌, List, [], ◌∷◌, ◌++◌, map, length, take, drop, Some, None, Ok, Err, Option, Result}
+use Rattle.std.specs.Prelude.{◌≡◌, ℕ, ◌≤◌, List, [], ◌∷◌, ◌++◌, map, length, take, drop, Ok, Err, Result}
 use Rattle.calculus.specs.declared.code.MethodEntry.{MethodEntry}
 use Rattle.store.specs.declared.faults.StoreFault.{StoreFault}
 use Rattle.store_laws.specs.declared.runs.StoreAnswer.{StoreAnswer}
@@ -9,27 +9,23 @@ use Rattle.store_laws.specs.declared.runs.StoreCall.TheVariants.{ObjectCount, Ob
 use Rattle.store.specs.Meaning.{Object, Meaning, no_trial, total, size_of, method_at, find_in, make_result, made_by, clone_result, cloned_by, update_result, updated}
 
 module _ {A : Type 0} where
-  -- what is answered, by how it is told
-  abbrev pub told : (A → StoreAnswer) → Result A StoreFault → StoreAnswer
-  told f (Ok x) = f x
-  told f (Err e) = answer.Refused e
-
-abbrev pub place_told : Option ℕ → StoreAnswer
-place_told (Some p) = answer.Place p
-place_told None = answer.NoLabel
+  -- what is answered, by how it is told, or refused
+  abbrev pub told : (A → StoreAnswer) → Result A StoreFault → Result StoreAnswer StoreFault
+  told f (Ok x) = Ok (f x)
+  told f (Err e) = Err e
 
 -- the entries of a table from `first` on, n or as many as there are
 abbrev pub entries_at : List MethodEntry → ℕ → ℕ → List MethodEntry
 entries_at table first n = take n (drop first table)
 
 module _ (table : List MethodEntry) where
-  abbrev pub answer_to : Meaning → StoreCall → StoreAnswer
-  answer_to m ObjectCount = answer.Number (length m.objects)
-  answer_to m ObjectLimit = answer.Number m.object_limit
-  answer_to m MethodLimit = answer.Number m.method_limit
+  abbrev pub answer_to : Meaning → StoreCall → Result StoreAnswer StoreFault
+  answer_to m ObjectCount = Ok (answer.Number (length m.objects))
+  answer_to m ObjectLimit = Ok (answer.Number m.object_limit)
+  answer_to m MethodLimit = Ok (answer.Number m.method_limit)
   answer_to m (Size l) = told answer.Number (size_of m l)
   answer_to m (MethodAt l p) = told answer.Method (method_at m l p)
-  answer_to m (Find l x) = told place_told (find_in m l x)
+  answer_to m (Find l x) = told answer.Place (find_in m l x)
   answer_to m (Make f n env) = told answer.Location (make_result m (entries_at table f n))
   answer_to m (Clone l) = told answer.Location (clone_result m l)
   answer_to m (Update l p c) = told (λ _. answer.Updated) (update_result m l p)
@@ -45,7 +41,7 @@ module _ (table : List MethodEntry) where
   meaning_after m (Clone l) = cloned_by m l
   meaning_after m (Update l p c) = updated m l p c
 
-  abbrev pub answers_to : Meaning → List StoreCall → List StoreAnswer
+  abbrev pub answers_to : Meaning → List StoreCall → List (Result StoreAnswer StoreFault)
   answers_to m [] = []
   answers_to m (c ∷ cs) = answer_to m c ∷ answers_to (meaning_after m c) cs
 

@@ -26,80 +26,54 @@ pub enum StoreCall {
     Update(u32, u32, Closure),
 }
 
-/// What a store answers.
+/// What a store answers to a call that it does not refuse.
 #[derive(Clone, Copy, PartialEq, Eq)]
 pub enum StoreAnswer {
     /// A count, a limit or a size.
     Number(u32),
     Method(Method),
-    Place(u32),
-    /// No method of the object has the label.
-    NoLabel,
+    /// Of the first method with the label, if the object has one.
+    Place(Option<u32>),
     /// Of the object that was made.
     Location(u32),
     Updated,
-    Refused(StoreFault),
 }
 
 // The entries from `first` on, `count` or as many as there are.
 fn entries_at(table: &[MethodEntry], first: u32, count: u32) -> &[MethodEntry]
     ensures { result.now ≡ entries_at table.now first count }
 {
-    let start = first as usize;
-    if start >= table.len() {
-        return &table[0..0];
-    }
-    if count as usize >= table.len() - start {
-        return &table[start..];
-    }
-    &table[start..start + count as usize]
-}
-
-fn lesser(a: usize, b: usize) -> usize
-    ensures { result ≡ min a b }
-{
-    if a < b { a } else { b }
+    let rest = &table[table.len().min(first as usize)..];
+    &rest[..rest.len().min(count as usize)]
 }
 
 /// Makes one call.
-pub fn perform<S: Store>(store: &mut S, table: &[MethodEntry], call: StoreCall) -> StoreAnswer
+pub fn perform<S: Store>(
+    store: &mut S,
+    table: &[MethodEntry],
+    call: StoreCall,
+) -> Result<StoreAnswer, StoreFault>
     ensures answer { result ≡ answer_to table.now (S.meaning store.old) call }
     ensures state { S.meaning store.new ≡ meaning_after table.now (S.meaning store.old) call }
 {
-    match call {
+    Ok(match call {
         StoreCall::ObjectCount => StoreAnswer::Number(store.object_count()),
         StoreCall::ObjectLimit => StoreAnswer::Number(store.object_limit()),
         StoreCall::MethodLimit => StoreAnswer::Number(store.method_limit()),
-        StoreCall::Size(location) => match store.size(location) {
-            Ok(size) => StoreAnswer::Number(size),
-            Err(fault) => StoreAnswer::Refused(fault),
-        },
-        StoreCall::MethodAt(location, place) => match store.method_at(location, place) {
-            Ok(method) => StoreAnswer::Method(method),
-            Err(fault) => StoreAnswer::Refused(fault),
-        },
-        StoreCall::Find(location, label) => match store.find(location, label) {
-            Ok(Some(place)) => StoreAnswer::Place(place),
-            Ok(None) => StoreAnswer::NoLabel,
-            Err(fault) => StoreAnswer::Refused(fault),
-        },
+        StoreCall::Size(location) => StoreAnswer::Number(store.size(location)?),
+        StoreCall::MethodAt(location, place) => {
+            StoreAnswer::Method(store.method_at(location, place)?)
+        }
+        StoreCall::Find(location, label) => StoreAnswer::Place(store.find(location, label)?),
         StoreCall::Make { first, count, env } => {
-            match store.make(entries_at(table, first, count), env) {
-                Ok(location) => StoreAnswer::Location(location),
-                Err(fault) => StoreAnswer::Refused(fault),
-            }
+            StoreAnswer::Location(store.make(entries_at(table, first, count), env)?)
         }
-        StoreCall::Clone(location) => match store.clone_object(location) {
-            Ok(copy) => StoreAnswer::Location(copy),
-            Err(fault) => StoreAnswer::Refused(fault),
-        },
+        StoreCall::Clone(location) => StoreAnswer::Location(store.clone_object(location)?),
         StoreCall::Update(location, place, closure) => {
-            match store.update(location, place, closure) {
-                Ok(()) => StoreAnswer::Updated,
-                Err(fault) => StoreAnswer::Refused(fault),
-            }
+            store.update(location, place, closure)?;
+            StoreAnswer::Updated
         }
-    }
+    })
 }
 
 /// Makes the calls in order, as many as there are places for answers, and says how many were made.
@@ -107,7 +81,7 @@ pub fn perform_all<S: Store>(
     store: &mut S,
     table: &[MethodEntry],
     calls: &[StoreCall],
-    answers: &mut [StoreAnswer],
+    answers: &mut [Result<StoreAnswer, StoreFault>],
 ) -> usize
     ensures count { result ≡ min (length calls.now) (length answers.old) }
     ensures answers { answers.new ≡ answers_to table.now (S.meaning store.old) (take result calls.now) ++ drop result answers.old }
@@ -115,9 +89,10 @@ pub fn perform_all<S: Store>(
     ensures lasting { Lasts (S.meaning store.old) (S.meaning store.new) }
     ensures alike { (m : Meaning) → Alike m (S.meaning store.old) → (answers_to table.now m (take result calls.now) ≡ take result answers.new) × Alike (meaning_after_all table.now m (take result calls.now)) (S.meaning store.new) }
 {
-    let count = lesser(calls.len(), answers.len());
-    for i in 0..count {
-        answers[i] = perform(store, table, calls[i]);
+    let count = calls.len().min(answers.len());
+    // By index: of what an adapter of `iter_mut` lends out a proof knows no element afterwards.
+    for (i, call) in calls[..count].iter().enumerate() {
+        answers[i] = perform(store, table, *call);
     }
     count
 }

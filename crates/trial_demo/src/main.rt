@@ -94,8 +94,7 @@ fn demo<S: Store + Drop>(rt: &impl Print, below: S) -> io::Result<()> {
 }
 
 fn main(rt: HostRuntime) -> io::Result<()> {
-    let closure = Closure { list: 0, env: 0 };
-    let mut objects = [Span { first: 0, size: 0 }; 8];
-    let mut methods = [Method { label: 0, closure }; 16];
+    let mut objects = [Span::default(); 8];
+    let mut methods = [Method::default(); 16];
     demo(&rt, FlatStore::new(&mut objects, &mut methods))
 }

@@ -16,11 +16,10 @@ use Rattle.store_laws.specs.declared.runs.StoreAnswer.{StoreAnswer}
 use Rattle.store_laws.specs.declared.runs.StoreAnswer.TheVariants as answer
 use Rattle.store_laws.specs.declared.runs.StoreCall.{StoreCall}
 use Rattle.store_laws.specs.declared.runs.StoreCall.TheVariants.{ObjectCount, ObjectLimit, MethodLimit, Size, MethodAt, Find, Make, Clone, Update}
-use Rattle.store_laws.specs.Runs.{told, place_told, meaning_after, entries_at}
+use Rattle.store_laws.specs.Runs.{told, meaning_after, entries_at}
 use Rattle.trial_layer.specs.Laws.{Placed, AllPlaced, Booked}
 use Rattle.trial_layer.specs.Runs.{new_objects, updates_by, one_if_updated}
 use Rattle.trial_layer.specs.Trials.{undo}
-use Rattle.trial_layer.proofs.Entries.{never}
 use Rattle.trial_layer.proofs.Undoing.{undo_front, undo_put}
 
 pub placed_front : (os new : List Object) (notes : List OldMethod) → AllPlaced os notes → AllPlaced (os ++ new) notes
@@ -30,7 +29,7 @@ placed_front os new (n ∷ notes) h = ((h.0.0, h.0.1 ∙ sym (nth_append os new 
 -- an object in place of another of its size
 module _ (o q : Object) (same : length q ≡ length o) where
   sized : (os : List Object) (l j : ℕ) (y : Object) → Some o ≡ slice_get os l → Some y ≡ slice_get os j → (z : Object) × (Some z ≡ slice_get (set os l q) j) × (length z ≡ length y)
-  sized [] l j y h k = never h
+  sized [] l j y h k = absurd cc
   sized (x ∷ os) zero zero y h k = let e : y ≡ o = cc in (q, refl, same ∙ ap length (sym e))
   sized (x ∷ os) zero (suc j) y h k = (y, k, refl)
   sized (x ∷ os) (suc l) zero y h k = (y, k, refl)
@@ -47,13 +46,9 @@ placed_push os [] n h k = (k, tt)
 placed_push os (x ∷ notes) n h k = (h.0, placed_push os notes n h.1 k)
 
 -- only an update is answered as one
-no_update : {A : Type 0} (f : A → StoreAnswer) → ((x : A) → one_if_updated (f x) ≡ 0) → (r : Result A StoreFault) → one_if_updated (told f r) ≡ 0
+no_update : {A : Type 0} (f : A → StoreAnswer) → ((x : A) → one_if_updated (Ok (f x)) ≡ 0) → (r : Result A StoreFault) → one_if_updated (told f r) ≡ 0
 no_update f h (Ok x) = h x
 no_update f h (Err e) = refl
-
-no_place : (x : Option ℕ) → one_if_updated (place_told x) ≡ 0
-no_place (Some p) = refl
-no_place None = refl
 
 module _ (table : List MethodEntry) (m : Meaning) (n : ℕ) (notes : List OldMethod) (is : m.trial ≡ opened n notes) (in_place : AllPlaced m.objects notes) (few : length notes ≤ 256) where
   -- a call that adds objects, or none
@@ -125,7 +120,7 @@ module _ (table : List MethodEntry) (m : Meaning) (n : ℕ) (notes : List OldMet
   booked MethodLimit = idle MethodLimit refl refl
   booked (Size l) = idle (Size l) refl (no_update answer.Number (λ x. refl) (size_of m l))
   booked (MethodAt l p) = idle (MethodAt l p) refl (no_update answer.Method (λ x. refl) (method_at m l p))
-  booked (Find l x) = idle (Find l x) refl (no_update place_told no_place (find_in m l x))
+  booked (Find l x) = idle (Find l x) refl (no_update answer.Place (λ x. refl) (find_in m l x))
   booked (Make f k env) =
       let es = entries_at table f k in
       let g = more (make_result m es) (methods_of es env) in

@@ -19,16 +19,16 @@ abbrev Good : Meaning → Type 0
 Good m = (n : ℕ) (notes : List OldMethod) → m.trial ≡ opened n notes → AllPlaced m.objects notes × (length notes ≤ 256)
 
 not_open : {A : Type 0} {n k : ℕ} {notes : List OldMethod} {t : Trial} → t ≡ closed k → t ≡ opened n notes → A
-not_open h e = let z : ◌≡◌ {A = ℕ} 0 1 = cc in absurd (omega arith)
+not_open h e = absurd cc
 
 after_store : (table : List MethodEntry) (m : Meaning) (t : Trial) → m.trial ≡ t → Good m → (c : StoreCall) → Good (meaning_after table m c)
-after_store table m no_trial h g c n notes e = let s = unaltered table m c (λ old. ap (noted old) h ∙ sym h) in let z : ◌≡◌ {A = ℕ} 0 1 = cc in absurd (omega arith)
+after_store table m no_trial h g c n notes e = let s = unaltered table m c (λ old. ap (noted old) h ∙ sym h) in absurd cc
 after_store table m (closed k) h g c n notes e = not_open (unaltered table m c (λ old. ap (noted old) h ∙ sym h) ∙ h) e
-after_store table m (overrun k) h g c n notes e = let s = unaltered table m c (λ old. ap (noted old) h ∙ sym h) in let z : ◌≡◌ {A = ℕ} 0 1 = cc in absurd (omega arith)
+after_store table m (overrun k) h g c n notes e = let s = unaltered table m c (λ old. ap (noted old) h ∙ sym h) in absurd cc
 after_store table m (opened k old) h g c n notes e =
     let b = booked table m k old h (g k old h).0 (g k old h).1 c in
     ⊎_elim
-    (λ many. let s = b.overruns many in let z : ◌≡◌ {A = ℕ} 0 1 = cc in absurd (omega arith))
+    (λ many. let s = b.overruns many in absurd cc)
     (λ room.
     let those = (b.notes_it room).0 in
     let now = (b.notes_it room).1 in
@@ -37,14 +37,14 @@ after_store table m (opened k old) h g c n notes e =
     (cases_lt 256 (length old + updates_by table m c))
 
 after_open : (m : Meaning) (t : Trial) → m.trial ≡ t → Good m → Good (with_trial m (trial_opened t))
-after_open m no_trial h g n notes e = let z : ◌≡◌ {A = ℕ} 0 1 = cc in absurd (omega arith)
+after_open m no_trial h g n notes e = absurd cc
 after_open m (closed k) h g n notes e = by (ltb k 4294967295) e
   where
     by : (b : Bool) → cond b (opened (k + 1) []) (closed k) ≡ opened n notes → AllPlaced m.objects notes × (length notes ≤ 256)
     by true q = let none : [] ≡ notes = cc in (subst (λ ns. AllPlaced m.objects ns) none tt, omega (arith, ap length none))
     by false q = not_open refl q
 after_open m (opened k old) h g n notes e = g n notes (h ∙ e)
-after_open m (overrun k) h g n notes e = let z : ◌≡◌ {A = ℕ} 0 1 = cc in absurd (omega arith)
+after_open m (overrun k) h g n notes e = absurd cc
 
 after_keep : (m : Meaning) (k : ℕ) (b : Bool) → Good m → Good (cond b (with_trial m (closed k)) m)
 after_keep m k true g n notes e = not_open refl e

@@ -63,14 +63,14 @@ ran table m n notes (c ∷ cs) is in_place few =
 
 -- an opening that was not refused
 pub opens : (t : Trial) (k : ℕ) → Ok (token k) ≡ open_result t → trial_opened t ≡ opened k []
-opens no_trial k h = let z : ◌≡◌ {A = ℕ} 0 1 = cc in absurd (omega arith)
+opens no_trial k h = absurd cc
 opens (closed n) k h = by (ltb n 4294967295) h
   where
     by : (b : Bool) → ◌≡◌ {A = Result Token TrialFault} (Ok (token k)) (cond b (Ok (token (n + 1))) (Err NoNumber)) → cond b (opened (n + 1) []) (closed n) ≡ opened k []
     by true e = let s : token (n + 1) ≡ token k = cc in ap (λ x. opened x.number []) s
-    by false e = let z : ◌≡◌ {A = ℕ} 0 1 = cc in absurd (omega arith)
-opens (opened n notes) k h = let z : ◌≡◌ {A = ℕ} 0 1 = cc in absurd (omega arith)
-opens (overrun n) k h = let z : ◌≡◌ {A = ℕ} 0 1 = cc in absurd (omega arith)
+    by false e = absurd cc
+opens (opened n notes) k h = absurd cc
+opens (overrun n) k h = absurd cc
 
 -- put back, by the token x, of the trial k that was opened at m, after a run of a store's calls
 module _ (table : List MethodEntry) (m : Meaning) (k : ℕ) (calls : List StoreCall) (was : Ok (token k) ≡ open_result m.trial) (e : Meaning) (is : e ≡ meaning_after_all table (opening m) calls) (x : Token) (r : Result Unit (Token × TrialFault)) (told : r ≡ back_result e.trial x) (z : Meaning) (left : z ≡ put_back e x.number) where
@@ -89,7 +89,7 @@ module _ (table : List MethodEntry) (m : Meaning) (k : ℕ) (calls : List StoreC
   answers f h = told ∙ ap (λ y. if_some y (λ fault. Err (x, fault)) (Ok tt)) h
 
   refused : {A : Type 0} (fault : TrialFault) → r ≡ Err (x, fault) → r ≡ Ok tt → A
-  refused fault h g = let y : ◌≡◌ {A = ℕ} 0 1 = cc in absurd (omega arith)
+  refused fault h g = absurd cc
 
   others : (x.number ≡ k → ⊥) → Back table m k calls x r z
   others ne =

@@ -9,10 +9,10 @@ use Rattle.store.specs.Meaning.{Meaning, Object, Trial, with_objects, put_closur
 use Rattle.store.proofs.Nth.{nth_some, nth_set, nth_append}
 use Rattle.trial_layer.specs.Laws.{AllPlaced}
 use Rattle.trial_layer.specs.Trials.{with_trial, restore, undo, undone_by}
-use Rattle.trial_layer.proofs.Entries.{never, set_nth}
+use Rattle.trial_layer.proofs.Entries.{set_nth}
 
 undo_newest : (k : ℕ) (notes : List OldMethod) (old : OldMethod) (os : List Object) → Some old ≡ slice_get notes k → undo (take (suc k) notes) os ≡ undo (take k notes) (restore old os)
-undo_newest k [] old os h = never h
+undo_newest k [] old os h = absurd cc
 undo_newest zero (n ∷ notes) old os h = let e : n ≡ old = cc in ap (λ x. restore x os) e
 undo_newest (suc k) (n ∷ notes) old os h = ap (restore n) (undo_newest k notes old os h)
 

@@ -1,20 +1,20 @@
 -- What a run of a store's calls adds, and how many updates it makes.
-use Rattle.std.specs.Prelude.{ℕ, ◌+◌, List, [], ◌∷◌, ◌++◌, length, drop}
+use Rattle.std.specs.Prelude.{ℕ, ◌+◌, List, [], ◌∷◌, ◌++◌, length, drop, Ok, Err, Result}
 use Rattle.calculus.specs.declared.code.MethodEntry.{MethodEntry}
+use Rattle.store.specs.declared.faults.StoreFault.{StoreFault}
 use Rattle.store.specs.Meaning.{Meaning, Object}
 use Rattle.store_laws.specs.declared.runs.StoreAnswer.{StoreAnswer}
-use Rattle.store_laws.specs.declared.runs.StoreAnswer.TheVariants.{Number, Method, Place, NoLabel, Location, Updated, Refused}
+use Rattle.store_laws.specs.declared.runs.StoreAnswer.TheVariants.{Number, Method, Place, Location, Updated}
 use Rattle.store_laws.specs.declared.runs.StoreCall.{StoreCall}
 use Rattle.store_laws.specs.Runs.{answer_to, meaning_after}
 
-abbrev pub one_if_updated : StoreAnswer → ℕ
-one_if_updated (Number n) = 0
-one_if_updated (Method m) = 0
-one_if_updated (Place p) = 0
-one_if_updated NoLabel = 0
-one_if_updated (Location l) = 0
-one_if_updated Updated = 1
-one_if_updated (Refused e) = 0
+abbrev pub one_if_updated : Result StoreAnswer StoreFault → ℕ
+one_if_updated (Ok (Number n)) = 0
+one_if_updated (Ok (Method m)) = 0
+one_if_updated (Ok (Place p)) = 0
+one_if_updated (Ok (Location l)) = 0
+one_if_updated (Ok Updated) = 1
+one_if_updated (Err e) = 0
 
 module _ (table : List MethodEntry) where
   -- 1 for an update that is not refused

@@ -58,14 +58,10 @@ impl Book {
         ensures answer { result ≡ open_result (trial_of self.old) }
         ensures state { trial_of self.new ≡ trial_opened (trial_of self.old) }
     {
-        match self.state {
-            TrialState::Closed => {}
-            _ => return Err(TrialFault::Open),
+        if self.state != TrialState::Closed {
+            return Err(TrialFault::Open);
         }
-        if self.last == u32::MAX {
-            return Err(TrialFault::NoNumber);
-        }
-        self.last += 1;
+        self.last = self.last.checked_add(1).ok_or(TrialFault::NoNumber)?;
         self.state = TrialState::Open;
         Ok(Token::numbered(self.last))
     }
@@ -74,10 +70,7 @@ impl Book {
     pub fn has_open(&self, number: u32) -> bool
         ensures { result ≡ is_open (trial_of self.now) number }
     {
-        match self.state {
-            TrialState::Closed => false,
-            _ => self.last == number,
-        }
+        self.state != TrialState::Closed && self.last == number
     }
 
     /// Why the trial with this number cannot be put back, if it cannot.
@@ -87,10 +80,7 @@ impl Book {
         if !self.has_open(number) {
             return Some(TrialFault::WrongToken);
         }
-        match self.state {
-            TrialState::Overrun => Some(TrialFault::Overrun),
-            _ => None,
-        }
+        (self.state == TrialState::Overrun).then_some(TrialFault::Overrun)
     }
 
     /// Ends the trial and empties the book.

@@ -44,16 +44,12 @@ impl<S: Store> Store for TrialLayer<S> {
 
     /// Notes the old closure first, while a trial is open.
     fn update(&mut self, location: u32, place: u32, closure: Closure) -> Result<(), StoreFault> {
-        match self.below.method_at(location, place) {
-            Ok(old) => {
-                self.book.note(OldMethod {
-                    location,
-                    place,
-                    closure: old.closure,
-                });
-                self.below.update(location, place, closure)
-            }
-            Err(fault) => Err(fault),
-        }
+        let old = self.below.method_at(location, place)?;
+        self.book.note(OldMethod {
+            location,
+            place,
+            closure: old.closure,
+        });
+        self.below.update(location, place, closure)
     }
 }

@@ -1,14 +1,14 @@
 //! A plain table of old methods.
 ghost use Rattle.std.specs.Prelude.{slice_get, ◌≡◌, ◌<◌, length, Some, slice_set};
 
-use store::closures::{Closure, OldMethod};
+use store::closures::OldMethod;
 
 /// A book counts no more old methods than this.
 pub const BOOK_ROOM: usize = 256;
 
 #[derive(Drop)]
 pub struct NoteTable {
-    rows: [OldMethod; 256],
+    rows: [OldMethod; BOOK_ROOM],
 }
 
 impl NoteTable {
@@ -16,13 +16,9 @@ impl NoteTable {
     pub fn new() -> NoteTable
         ensures { length result.rows ≡ 256 }
     {
-        let closure = Closure { list: 0, env: 0 };
-        let blank = OldMethod {
-            location: 0,
-            place: 0,
-            closure,
-        };
-        NoteTable { rows: [blank; 256] }
+        NoteTable {
+            rows: [OldMethod::default(); BOOK_ROOM],
+        }
     }
 
     /// The old method in a row.

@@ -14,7 +14,7 @@ use Rattle.trial_tests.specs.Tries.{Tried}
 
 -- a refused put back changes nothing, and keep no object
 same_if_refused : (e : Meaning) (k : ℕ) (x t : Token) (fault : TrialFault) (o : Option TrialFault) → ◌≡◌ {A = Result Unit (Token × TrialFault)} (Err (t, fault)) (if_some o (λ f. Err (x, f)) (Ok tt)) → if_some o (λ f. e) (undone e k) ≡ e
-same_if_refused e k x t fault None h = let c : ◌≡◌ {A = ℕ} 0 1 = cc in absurd (omega arith)
+same_if_refused e k x t fault None h = absurd cc
 same_if_refused e k x t fault (Some f) h = refl
 
 kept_objects : (b : Bool) (w : Meaning) (k : ℕ) → (cond b (with_trial w (closed k)) w).objects ≡ w.objects
@@ -27,13 +27,13 @@ module _ (table : List MethodEntry) (m e f : Meaning) (x : Token) (was : Ok x �
   is = ran ∙ ap (λ s. meaning_after_all table s (take n calls)) opens ∙ ap (λ i. meaning_after_all table (opening m) (take i calls)) many
 
   no_fault : {A : Type 0} (fault : TrialFault) → Err fault ≡ open_result m.trial → A
-  no_fault fault h = let c : ◌≡◌ {A = ℕ} 0 1 = cc in absurd (omega arith)
+  no_fault fault h = absurd cc
 
   pub tried_back : (z : Meaning) → PutBack e x (Ok tt) z → Tried table (take k calls) m (Ok tt) z
   tried_back z told =
       let b = told table m x.number (take k calls) was is in
       record {
-        opened = λ y h. record { put_back = λ few. (refl, b.restored refl); too_many = λ more. let q = b.too_many refl more in let c : ◌≡◌ {A = ℕ} 0 1 = cc in absurd (omega arith) };
+        opened = λ y h. record { put_back = λ few. (refl, b.restored refl); too_many = λ more. let q = b.too_many refl more in absurd cc };
         refused = λ fault h. no_fault fault h;
       }
 
@@ -42,7 +42,7 @@ module _ (table : List MethodEntry) (m e f : Meaning) (x : Token) (was : Ok x �
       let b = told table m x.number (take k calls) was is in
       record {
         opened = λ y h. record {
-          put_back = λ few. let q = b.accepted refl few in let c : ◌≡◌ {A = ℕ} 0 1 = cc in absurd (omega arith);
+          put_back = λ few. let q = b.accepted refl few in absurd cc;
           too_many = λ more.
               let q = b.too_many refl more in
               let both : ◌≡◌ {A = Token × TrialFault} (t, fault) (x, Overrun) = cc in

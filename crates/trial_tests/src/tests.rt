@@ -29,8 +29,6 @@ const EVERY: [Below; 4] = [
     Below::LayerOnSharing,
 ];
 
-const NONE: Closure = Closure { list: 0, env: 0 };
-
 const ENTRIES: [MethodEntry; 2] = [
     MethodEntry { label: 1, list: 10 },
     MethodEntry { label: 2, list: 20 },
@@ -40,10 +38,9 @@ const ENTRIES: [MethodEntry; 2] = [
 type Lists = [u32; 8];
 
 fn list_at<S: Store>(store: &S, location: u32, place: u32) -> u32 {
-    match store.method_at(location, place) {
-        Ok(method) => method.closure.list,
-        Err(_) => 0,
-    }
+    store
+        .method_at(location, place)
+        .map_or(0, |method| method.closure.list)
 }
 
 fn lists<S: Store>(store: &S) -> Lists {
@@ -59,32 +56,30 @@ fn lists<S: Store>(store: &S) -> Lists {
     ]
 }
 
-/// What comes of some calls on trial: 0 or the number of the fault by which put back was refused, the same of a second time, and
-/// the lists before, during and after the first.
-type Outcome = (u32, u32, [Lists; 3]);
+/// What comes of some calls on trial: the number of the fault if put back was refused, the same of a second time, and the lists
+/// before, during and after the first.
+type Outcome = (Result<(), u32>, Result<(), u32>, [Lists; 3]);
 
 // A layer with one object, then the calls on trial, put back or, if that is refused, kept.
 fn tried<S: Store + Drop>(below: S, calls: &[StoreCall]) -> Result<Outcome, TrialFault> {
     let mut layer = TrialLayer::new(below);
     let _ = layer.make(&ENTRIES, 5);
     let before = lists(&layer);
-    let mut answers = [StoreAnswer::NoLabel; 300];
+    let mut answers = [Ok(StoreAnswer::Updated); 300];
     let token = layer.open()?;
     let _ = perform_all(&mut layer, &ENTRIES, calls, &mut answers);
     let during = lists(&layer);
-    let fault = match layer.put_back(token) {
-        Ok(()) => 0,
+    let ended = match layer.put_back(token) {
+        Ok(()) => Ok(()),
         Err((token, fault)) => {
             layer.keep(token)?;
-            fault.number()
+            Err(fault.number())
         }
     };
     let after = lists(&layer);
-    let again = match try_calls(&mut layer, &ENTRIES, calls, &mut answers) {
-        Ok(()) => 0,
-        Err(fault) => fault.number(),
-    };
-    Ok((fault, again, [before, during, after]))
+    let again = try_calls(&mut layer, &ENTRIES, calls, &mut answers);
+    let again = again.map_err(TrialFault::number);
+    Ok((ended, again, [before, during, after]))
 }
 
 fn tried_on_layer<S: Store + Drop>(below: S, calls: &[StoreCall]) -> Result<Outcome, TrialFault> {
@@ -92,19 +87,9 @@ fn tried_on_layer<S: Store + Drop>(below: S, calls: &[StoreCall]) -> Result<Outc
 }
 
 fn tried_on(below: Below, calls: &[StoreCall]) -> Result<Outcome, TrialFault> {
-    let mut methods = [Method {
-        label: 0,
-        closure: NONE,
-    }; 16];
-    let mut spans = [Span { first: 0, size: 0 }; 8];
-    let mut shared = [SharedEntry {
-        first: 0,
-        size: 0,
-        held: 0,
-        root: 0,
-        last: 0,
-        previous: 0,
-    }; 8];
+    let mut methods = [Method::default(); 16];
+    let mut spans = [Span::default(); 8];
+    let mut shared = [SharedEntry::default(); 8];
     match below {
         Below::Flat => tried(FlatStore::new(&mut spans, &mut methods), calls),
         Below::Sharing => tried(SharingStore::new(&mut shared, &mut methods), calls),
@@ -143,95 +128,75 @@ fn put_back(rt: HostRuntime) -> Result<(), Fail> {
     for below in EVERY {
         assert_eq!(rt;
             tried_on(below, &same_place[0..256])?,
-            (0, 0, [start, updated, start])
+            (Ok(()), Ok(()), [start, updated, start])
         );
         assert_eq!(rt;
             tried_on(below, &same_place)?,
-            (30, 30, [start, updated, updated])
+            (Err(30), Err(30), [start, updated, updated])
         );
-        assert_eq!(rt; tried_on(below, &mixed)?, (0, 0, [start, changed, newer]));
+        assert_eq!(rt;
+            tried_on(below, &mixed)?,
+            (Ok(()), Ok(()), [start, changed, newer])
+        );
     }
     Ok(())
 }
 
-// What keep answers to the token of a number: 0, or the number of the fault.
-fn kept<S: Store>(layer: &mut TrialLayer<S>, number: u32) -> u32 {
-    match Token::of(number) {
-        Some(token) => match layer.keep(token) {
-            Ok(()) => 0,
-            Err(fault) => fault.number(),
-        },
-        None => 1,
-    }
+// What keep answers to the token of a number, if there is one: nothing, or the number of the fault.
+fn kept<S: Store>(layer: &mut TrialLayer<S>, number: u32) -> Option<Result<(), u32>> {
+    let token = Token::of(number)?;
+    Some(layer.keep(token).map_err(TrialFault::number))
 }
 
-// What put back answers, and the number of the token that it hands back. That one is spent on keep, which is refused as well.
-fn put_back_by<S: Store>(layer: &mut TrialLayer<S>, number: u32) -> (u32, u32) {
-    match Token::of(number) {
-        Some(token) => match layer.put_back(token) {
-            Ok(()) => (0, 0),
-            Err((token, fault)) => {
-                let back = token.number();
-                let _ = layer.keep(token);
-                (fault.number(), back)
-            }
-        },
-        None => (1, 1),
-    }
+// The same of put back, with the number of the token that it hands back. That one is spent on keep, which is refused as well.
+fn put_back_by<S: Store>(
+    layer: &mut TrialLayer<S>,
+    number: u32,
+) -> Option<Result<(), (u32, u32)>> {
+    let token = Token::of(number)?;
+    Some(match layer.put_back(token) {
+        Ok(()) => Ok(()),
+        Err((token, fault)) => {
+            let back = token.number();
+            let _ = layer.keep(token);
+            Err((fault.number(), back))
+        }
+    })
 }
 
 // The number of the trial that is opened, or that of the fault. The token is spent on another layer.
-fn opened<S: Store, T: Store>(layer: &mut TrialLayer<S>, aside: &mut TrialLayer<T>) -> u32 {
+fn opened<S: Store, T: Store>(
+    layer: &mut TrialLayer<S>,
+    aside: &mut TrialLayer<T>,
+) -> Result<u32, u32> {
     match layer.open() {
         Ok(token) => {
             let number = token.number();
             let _ = aside.keep(token);
-            number
+            Ok(number)
         }
-        Err(fault) => fault.number(),
+        Err(fault) => Err(fault.number()),
     }
-}
-
-fn numbers<S: Store + Drop, T: Store + Drop>(below: S, aside: T) -> [(u32, u32); 8] {
-    let mut layer = TrialLayer::new(below);
-    let mut aside = TrialLayer::new(aside);
-    [
-        (kept(&mut layer, 0), kept(&mut layer, 1)),
-        put_back_by(&mut layer, 1),
-        (
-            opened(&mut layer, &mut aside),
-            opened(&mut layer, &mut aside),
-        ),
-        (kept(&mut layer, 1), opened(&mut layer, &mut aside)),
-        (kept(&mut layer, 1), kept(&mut layer, 3)),
-        put_back_by(&mut layer, 1),
-        put_back_by(&mut layer, 3),
-        put_back_by(&mut layer, 2),
-    ]
 }
 
 #[test]
 fn tokens(rt: HostRuntime) {
-    let mut spans = [Span { first: 0, size: 0 }; 1];
-    let mut methods = [Method {
-        label: 0,
-        closure: NONE,
-    }; 1];
-    let mut others = [Span { first: 0, size: 0 }; 1];
+    let mut spans = [Span::default(); 1];
+    let mut methods = [Method::default(); 1];
+    let mut others = [Span::default(); 1];
     let mut their_methods = methods;
-    let answers = numbers(
-        FlatStore::new(&mut spans, &mut methods),
-        FlatStore::new(&mut others, &mut their_methods),
-    );
-    let expected = [
-        (1, 29),
-        (29, 1),
-        (1, 27),
-        (0, 2),
-        (29, 29),
-        (29, 1),
-        (29, 3),
-        (0, 0),
-    ];
-    assert_eq!(rt; answers, expected);
+    let mut layer = TrialLayer::new(FlatStore::new(&mut spans, &mut methods));
+    let mut aside = TrialLayer::new(FlatStore::new(&mut others, &mut their_methods));
+    assert_eq!(rt; kept(&mut layer, 0), None);
+    assert_eq!(rt; kept(&mut layer, 1), Some(Err(29)));
+    assert_eq!(rt; put_back_by(&mut layer, 1), Some(Err((29, 1))));
+    assert_eq!(rt; opened(&mut layer, &mut aside), Ok(1));
+    assert_eq!(rt; opened(&mut layer, &mut aside), Err(27));
+    assert_eq!(rt; kept(&mut layer, 1), Some(Ok(())));
+    assert_eq!(rt; opened(&mut layer, &mut aside), Ok(2));
+    assert_eq!(rt; kept(&mut layer, 1), Some(Err(29)));
+    assert_eq!(rt; kept(&mut layer, 3), Some(Err(29)));
+    assert_eq!(rt; put_back_by(&mut layer, 1), Some(Err((29, 1))));
+    assert_eq!(rt; put_back_by(&mut layer, 3), Some(Err((29, 3))));
+    assert_eq!(rt; put_back_by(&mut layer, 2), Some(Ok(())));
 }

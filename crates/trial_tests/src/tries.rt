@@ -4,6 +4,7 @@ ghost use Rattle.trial_layer.specs.Layers.{layer_meaning};
 ghost use Rattle.trial_tests.specs.Tries.{Tried};
 
 use calculus::code::MethodEntry;
+use store::faults::StoreFault;
 use store::store::Store;
 use store_laws::runs::{StoreAnswer, StoreCall, perform_all};
 use trial_layer::faults::TrialFault;
@@ -14,7 +15,7 @@ pub fn try_calls<S: Store>(
     layer: &mut TrialLayer<S>,
     table: &[MethodEntry],
     calls: &[StoreCall],
-    answers: &mut [StoreAnswer],
+    answers: &mut [Result<StoreAnswer, StoreFault>],
 ) -> Result<(), TrialFault>
     ensures { Tried table.now (take (min (length calls.now) (length answers.old)) calls.now) (layer_meaning S.Store.meaning layer.old) result (layer_meaning S.Store.meaning layer.new) }
 {

@@ -5,10 +5,10 @@ use store_laws::runs::StoreCall;
 
 /// Method entries with the labels 1 to 64.
 pub fn table() -> [MethodEntry; 64] {
-    let mut entries = [MethodEntry { label: 0, list: 0 }; 64];
-    for i in 0..64u16 {
-        entries[i as usize] = MethodEntry {
-            label: i + 1,
+    let mut entries = [MethodEntry::default(); 64];
+    for (i, entry) in entries.iter_mut().enumerate() {
+        *entry = MethodEntry {
+            label: i as u16 + 1,
             list: 100 + i as u32,
         };
     }
@@ -28,9 +28,18 @@ pub fn updated(location: u32, place: u32) -> StoreCall {
     )
 }
 
-/// An object and its clones, each of the one before it (a chain) or all of the first (a fan); then an update of the object at `at`, of
-/// the first and of the last, and one clone more of that at `at`. Nothing where there is no room for all of these calls.
-pub fn shape(chain: bool, clones: u32, at: u32, calls: &mut [StoreCall]) {
+/// What the clones of an object are made of.
+#[derive(Clone, Copy)]
+pub enum Shape {
+    /// Each is a clone of the one before it.
+    Chain,
+    /// All are clones of the first.
+    Fan,
+}
+
+/// An object and its clones; then an update of the object at `at`, of the first and of the last, and one clone more of that at `at`.
+/// Nothing where there is no room for all of these calls.
+pub fn shaped(shape: Shape, clones: u32, at: u32, calls: &mut [StoreCall]) {
     let end = clones as usize + 1;
     if calls.len() < end + 4 {
         return;
@@ -40,8 +49,11 @@ pub fn shape(chain: bool, clones: u32, at: u32, calls: &mut [StoreCall]) {
         count: 4,
         env: 1,
     };
-    for i in 0..clones {
-        calls[i as usize + 1] = StoreCall::Clone(if chain { i } else { 0 });
+    for (newest, call) in (0..clones).zip(&mut calls[1..end]) {
+        *call = StoreCall::Clone(match shape {
+            Shape::Chain => newest,
+            Shape::Fan => 0,
+        });
     }
     calls[end] = updated(at, 1);
     calls[end + 1] = updated(0, 2);
@@ -68,14 +80,14 @@ fn below(seed: u64, n: u32) -> u32 {
 pub fn mixed(start: u64, calls: &mut [StoreCall]) {
     let mut seed = start;
     let mut objects = 1;
-    for i in 0..calls.len() {
+    for call in calls.iter_mut() {
         seed = next(seed);
         let kind = below(seed, 20);
         seed = next(seed);
         let location = below(seed, objects);
         seed = next(seed);
         let place = below(seed, 6);
-        calls[i] = match kind {
+        *call = match kind {
             0 => StoreCall::Make {
                 first: place,
                 count: place,

@@ -1,5 +1,5 @@
 //! The two kinds of store compared call by call and object by object.
-use crate::calls::{mixed, shape, table};
+use crate::calls::{Shape, mixed, shaped, table};
 use crate::shown::{junk_entry, junk_method};
 use flat_store::table::FlatStore;
 use sharing_store::table::SharingStore;
@@ -8,39 +8,16 @@ use store::store::Store;
 use store_laws::runs::{StoreAnswer, StoreCall, perform_all};
 
 fn same_object<S: Store, T: Store>(left: &S, right: &T, location: u32) -> bool {
-    let Ok(size) = left.size(location) else {
-        return false;
-    };
-    let Ok(other) = right.size(location) else {
-        return false;
-    };
-    if size != other {
-        return false;
-    }
-    for place in 0..size {
-        let Ok(method) = left.method_at(location, place) else {
-            return false;
-        };
-        let Ok(twin) = right.method_at(location, place) else {
-            return false;
-        };
-        if method != twin {
-            return false;
-        }
-    }
-    true
+    let size = left.size(location);
+    size == right.size(location)
+        && (0..size.unwrap_or(0))
+            .all(|place| left.method_at(location, place) == right.method_at(location, place))
 }
 
 fn same_objects<S: Store, T: Store>(left: &S, right: &T) -> bool {
-    if left.object_count() != right.object_count() {
-        return false;
-    }
-    for location in 0..left.object_count() {
-        if !same_object(left, right, location) {
-            return false;
-        }
-    }
-    true
+    let count = left.object_count();
+    count == right.object_count()
+        && (0..count).all(|location| same_object(left, right, location))
 }
 
 // How many objects both kinds have after the calls (1,000 at most), with areas of these lengths (400 and 1,600 at most), if they gave the
@@ -61,29 +38,21 @@ fn alike(calls: &[StoreCall], object_area: usize, method_area: usize) -> Option<
         &mut entries[0..object_area],
         &mut sharing_methods[0..method_area],
     );
-    let mut answers = [StoreAnswer::Updated; 1000];
-    let mut others = [StoreAnswer::Updated; 1000];
+    let mut answers = [Ok(StoreAnswer::Updated); 1000];
+    let mut others = [Ok(StoreAnswer::Updated); 1000];
     let table = table();
     let made = perform_all(&mut flat, &table, calls, &mut answers);
     if perform_all(&mut sharing, &table, calls, &mut others) != made {
         return None;
     }
-    for i in 0..made {
-        if answers[i] != others[i] {
-            return None;
-        }
-    }
-    if same_objects(&flat, &sharing) {
-        Some(flat.object_count())
-    } else {
-        None
-    }
+    let same = answers[..made] == others[..made] && same_objects(&flat, &sharing);
+    same.then_some(flat.object_count())
 }
 
-/// An object and its clones, a chain or a fan, with updates.
-pub fn shape_alike(chain: bool, clones: u32, at: u32) -> Option<u32> {
+/// An object and its clones, with updates.
+pub fn shape_alike(shape: Shape, clones: u32, at: u32) -> Option<u32> {
     let mut calls = [StoreCall::ObjectCount; 20];
-    shape(chain, clones, at, &mut calls);
+    shaped(shape, clones, at, &mut calls);
     alike(&calls, 400, 1600)
 }
 

@@ -5,7 +5,7 @@ mod calls;
 mod compared;
 mod shown;
 
-use crate::calls::{closure, updated};
+use crate::calls::{Shape, closure, updated};
 use crate::compared::{mixed_alike, shape_alike};
 use crate::shown::both;
 use std::io;
@@ -120,9 +120,9 @@ fn main(rt: HostRuntime) -> io::Result<()> {
     for clones in 1..9u32 {
         for at in 0..clones + 1 {
             print!(rt; "{clones} clones, update at {at}: chain")?;
-            print_alike(&rt, shape_alike(true, clones, at))?;
+            print_alike(&rt, shape_alike(Shape::Chain, clones, at))?;
             print!(rt; ", fan")?;
-            print_alike(&rt, shape_alike(false, clones, at))?;
+            print_alike(&rt, shape_alike(Shape::Fan, clones, at))?;
             println!(rt; "")?;
         }
     }

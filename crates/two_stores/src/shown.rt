@@ -5,6 +5,7 @@ use sharing_store::entries::SharedEntry;
 use sharing_store::table::SharingStore;
 use std::io;
 use store::closures::{Closure, Method};
+use store::faults::StoreFault;
 use store::layout::Span;
 use store::store::Store;
 use store_laws::runs::{StoreAnswer, StoreCall, perform_all};
@@ -49,18 +50,18 @@ fn print_object<S: Store>(rt: &HostRuntime, store: &S, location: u32, size: u32)
     println!(rt; " ({size})")
 }
 
-fn print_answer(rt: &HostRuntime, answer: StoreAnswer) -> io::Result<()> {
+fn print_answer(rt: &HostRuntime, answer: Result<StoreAnswer, StoreFault>) -> io::Result<()> {
     match answer {
-        StoreAnswer::Number(n) => print!(rt; " {n},"),
-        StoreAnswer::Method(method) => {
+        Ok(StoreAnswer::Number(n)) => print!(rt; " {n},"),
+        Ok(StoreAnswer::Method(method)) => {
             print_method(rt, method)?;
             print!(rt; ",")
         }
-        StoreAnswer::Place(place) => print!(rt; " place {place},"),
-        StoreAnswer::NoLabel => print!(rt; " no such label,"),
-        StoreAnswer::Location(location) => print!(rt; " location {location},"),
-        StoreAnswer::Updated => print!(rt; " updated,"),
-        StoreAnswer::Refused(fault) => {
+        Ok(StoreAnswer::Place(Some(place))) => print!(rt; " place {place},"),
+        Ok(StoreAnswer::Place(None)) => print!(rt; " no such label,"),
+        Ok(StoreAnswer::Location(location)) => print!(rt; " location {location},"),
+        Ok(StoreAnswer::Updated) => print!(rt; " updated,"),
+        Err(fault) => {
             let number = fault.number();
             print!(rt; " refused {number},")
         }
@@ -68,11 +69,11 @@ fn print_answer(rt: &HostRuntime, answer: StoreAnswer) -> io::Result<()> {
 }
 
 fn print_run<S: Store>(rt: &HostRuntime, store: &mut S, calls: &[StoreCall]) -> io::Result<()> {
-    let mut answers = [StoreAnswer::Updated; 32];
+    let mut answers = [Ok(StoreAnswer::Updated); 32];
     let made = perform_all(store, &table(), calls, &mut answers);
     print!(rt; "   ")?;
-    for i in 0..made {
-        print_answer(rt, answers[i])?;
+    for answer in &answers[..made] {
+        print_answer(rt, *answer)?;
     }
     println!(rt; " {made} answers")?;
     for location in 0..store.object_count() {

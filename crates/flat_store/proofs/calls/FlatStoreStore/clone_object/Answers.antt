@@ -1,71 +1,59 @@
-use Rattle.std.proofs.Common.{sym, ◌∙◌, arith, length-set}
+use Rattle.std.proofs.Common.{ℕ, ◌+◌, ◌≤◌, [], ◌∷◌, ◌++◌, sym, refl, ap, ◌∙◌, subst, arith}
+use lib.Seq.{paste}
+use Rattle.std.proofs.lemmas.Result.{err_from_is_err_and}
+use Rattle.store.specs.declared.layout.Span.{Span}
+use Rattle.store.specs.Areas.{Changed}
 use Rattle.store.specs.Layout.{part}
-use Rattle.store.specs.Meaning.{no_trial}
-use Rattle.store.proofs.Spans.{length_part}
-use Rattle.store.proofs.Tells.{room_is, objects_full, methods_full, clone_is, cloned_is, not_cloned, no_clone, no_cloned}
-use Rattle.flat_store.proofs.Told.{told, span, span_in, laid_after, objects_after}
+use Rattle.store.specs.Meaning.{room_for, with_objects}
+use Rattle.store.proofs.Asked.{entered, roomed}
+use Rattle.store.proofs.Spans.{no_span, length_part}
+use Rattle.store.proofs.Tells.{room_is, clone_is, cloned_is, not_cloned}
+use Rattle.flat_store.specs.Flat.{flat_meaning}
+use Rattle.flat_store.proofs.Told.{told, span_in, laid_after, meaning_after}
 use Rattle.flat_store.proofs.calls.FlatStoreStore.clone_object.Goals as goal
 
-pub returns-then-location-self : goal.returns-then-location-self
-returns-then-location-self c =
-    let t = told c.args.self.now in
-    let h = c.if-location-self.true in
-    record { answer = no_clone _ _ _ _ _ t c.args.location h; state = no_cloned _ _ _ _ _ t c.args.location h }
-
-pub returns-then-self : goal.returns-then-self
-returns-then-self c =
+pub returns-in_err-copy : goal.returns-in_err-copy
+returns-in_err-copy c =
     let s = c.args.self.now in
     let t = told s in
     let l = c.args.location in
-    let h = c.if-location-self.false in
-    let r = objects_full _ _ _ _ _ t (span s l).size c.if-self.true in
-    record { answer = clone_is _ _ _ _ _ t l h _ r; state = not_cloned _ _ _ _ _ t l h _ r }
+    let e = entered s.areas no_span l c.in_ok-from.from c.in_ok-from.ensures in
+    let r = c.in_err-copy.ensures ∙ room_is _ _ _ _ _ t c.in_ok-from.from.size ∙ ap (λ (x : Span). room_for (flat_meaning s) x.size) e.1 in
+    let p = err_from_is_err_and c.from_residual-in_err-copy.result c.from_residual-in_err-copy.ensures.1 in
+    record { answer = rw (p.1, p.2) (clone_is _ _ _ _ _ t l e.0 _ r); state = not_cloned _ _ _ _ _ t l e.0 _ r }
 
-pub returns-then-from-self : goal.returns-then-from-self
-returns-then-from-self c =
+pub copy_methods-requires-clause-within : goal.copy_methods-requires-clause-within
+copy_methods-requires-clause-within c =
     let s = c.args.self.now in
-    let t = told s in
-    let l = c.args.location in
-    let h = c.if-location-self.false in
-    let r = methods_full _ _ _ _ _ t (span s l).size (omega arith) (omega arith) in
-    record { answer = clone_is _ _ _ _ _ t l h _ r; state = not_cloned _ _ _ _ _ t l h _ r }
-
-pub copy_methods-requires : goal.copy_methods-requires
-copy_methods-requires c = record { within = span_in c.args.self.now c.args.location c.if-location-self.false; room = omega arith }
+    let e = entered s.areas no_span c.args.location c.in_ok-from.from c.in_ok-from.ensures in
+    omega (arith, span_in s c.args.location e.0, ap (λ (x : Span). x.first) e.1, ap (λ (x : Span). x.size) e.1)
 
 pub invariant_of-self : goal.invariant_of-self
 invariant_of-self c =
     let s = c.args.self.now in
-    let t = c.copy_methods.new.self in
-    let w = c.copy_methods.ensures in
-    let from = span s c.args.location in
-    let low = span_in s c.args.location c.if-location-self.false in
-    let long = sym (length_part s.methods.now from (omega arith)) in
-    record {
-      object_room = simp length-set (omega arith);
-      method_room = omega arith;
-      objects_small = omega arith;
-      methods_small = omega arith;
-      objects_fit = omega arith;
-      methods_fit = omega arith;
-      laid_out = laid_after s t (part s.methods.now from) from.size w long (omega arith);
-    }
+    let from = c.in_ok-from.from in
+    let e = entered s.areas no_span c.args.location from c.in_ok-from.ensures in
+    let room = roomed s.areas from.size c.in_ok-copy.copy c.in_ok-copy.ensures in
+    let w = subst (λ (at : ℕ). Changed s.areas c.copy_methods.new.self s.areas.objects.now (paste s.areas.methods.now at (part s.areas.methods.now from) from.size)) c.method_count-first.ensures c.copy_methods.ensures in
+    let low : from.first + from.size ≤ s.areas.method_count = omega (arith, span_in s c.args.location e.0, ap (λ (x : Span). x.first) e.1, ap (λ (x : Span). x.size) e.1) in
+    let long = sym (length_part s.areas.methods.now from (omega arith)) in
+    record { laid_out = laid_after s c.copy_methods.new.self c.add.new.self (part s.areas.methods.now from) from.size w _ c.method_count-first.ensures refl c.add.ensures long room.objects room.methods }
 
 pub returns : goal.returns
 returns c =
     let s = c.args.self.now in
-    let t = c.copy_methods.new.self in
-    let w = c.copy_methods.ensures in
     let l = c.args.location in
-    let h = c.if-location-self.false in
-    let from = span s l in
-    let low = span_in s l h in
-    let long = sym (length_part s.methods.now from (omega arith)) in
-    let room = room_is _ _ _ _ _ (told s) from.size (omega arith) (omega arith) in
-    let objects = objects_after s t (part s.methods.now from) from.size w long (omega arith) in
+    let from = c.in_ok-from.from in
+    let e = entered s.areas no_span l from c.in_ok-from.ensures in
+    let room = roomed s.areas from.size c.in_ok-copy.copy c.in_ok-copy.ensures in
+    let w = subst (λ (at : ℕ). Changed s.areas c.copy_methods.new.self s.areas.objects.now (paste s.areas.methods.now at (part s.areas.methods.now from) from.size)) c.method_count-first.ensures c.copy_methods.ensures in
+    let low : from.first + from.size ≤ s.areas.method_count = omega (arith, span_in s l e.0, ap (λ (x : Span). x.first) e.1, ap (λ (x : Span). x.size) e.1) in
+    let long = sym (length_part s.areas.methods.now from (omega arith)) in
+    let r = c.in_ok-copy.ensures ∙ room_is _ _ _ _ _ (told s) from.size ∙ ap (λ (x : Span). room_for (flat_meaning s) x.size) e.1 in
     record {
-      answer = clone_is _ _ _ _ _ (told s) l h _ room;
+      answer = clone_is _ _ _ _ _ (told s) l e.0 _ r;
       state =
-          (λ i. record { objects = objects i; object_limit = w.object_limit_is i; method_limit = w.method_limit_is i; trial = no_trial })
-          ∙ cloned_is _ _ _ _ _ (told s) l h _ room;
+          meaning_after s c.copy_methods.new.self c.add.new.self (part s.areas.methods.now from) from.size w _ c.method_count-first.ensures refl c.add.ensures long room.objects room.methods
+          ∙ ap (λ (x : Span). with_objects (flat_meaning s) ((flat_meaning s).objects ++ part s.areas.methods.now x ∷ [])) e.1
+          ∙ cloned_is _ _ _ _ _ (told s) l e.0 _ r;
     }

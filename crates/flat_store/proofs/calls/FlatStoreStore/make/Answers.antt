@@ -1,51 +1,40 @@
-use Rattle.std.proofs.Common.{length, sym, ◌∙◌, arith, length-set}
+use Rattle.std.proofs.Common.{length, sym, ◌∙◌}
 use Rattle.std.proofs.lemmas.List.{length-map}
-use Rattle.store.specs.Meaning.{no_trial, method_of, methods_of}
-use Rattle.store.proofs.Tells.{room_is, objects_full, methods_full, made_is, not_made}
-use Rattle.flat_store.proofs.Told.{told, laid_after, objects_after}
+use Rattle.std.proofs.lemmas.Result.{err_from_is_err_and}
+use Rattle.store.specs.Meaning.{method_of, methods_of}
+use Rattle.store.proofs.Asked.{roomed}
+use Rattle.store.proofs.Tells.{room_is, made_is, not_made}
+use Rattle.flat_store.proofs.Told.{told, laid_after, meaning_after}
 use Rattle.flat_store.proofs.calls.FlatStoreStore.make.Goals as goal
 
-pub returns-then-self : goal.returns-then-self
-returns-then-self c =
+pub returns-in_err-location : goal.returns-in_err-location
+returns-in_err-location c =
     let t = told c.args.self.now in
     let es = c.args.entries.now in
-    let r = objects_full _ _ _ _ _ t (length es) c.if-self.true in
-    record { answer = r; state = not_made _ _ _ _ _ t es c.args.env _ r }
-
-pub returns-then-entries-self : goal.returns-then-entries-self
-returns-then-entries-self c =
-    let t = told c.args.self.now in
-    let es = c.args.entries.now in
-    let r = methods_full _ _ _ _ _ t (length es) (omega arith) (omega arith) in
-    record { answer = r; state = not_made _ _ _ _ _ t es c.args.env _ r }
+    let r = c.in_err-location.ensures ∙ room_is _ _ _ _ _ t (length es) in
+    let p = err_from_is_err_and c.from_residual.result c.from_residual.ensures.1 in
+    record { answer = rw (p.1, p.2) r; state = not_made _ _ _ _ _ t es c.args.env _ r }
 
 pub invariant_of-self : goal.invariant_of-self
 invariant_of-self c =
     let s = c.args.self.now in
-    let t = c.write_methods.new.self in
-    let w = c.write_methods.ensures in
     let es = c.args.entries.now in
+    let w = c.write_methods-span.ensures in
+    let room = roomed s.areas (length es) c.in_ok-location.location c.in_ok-location.ensures in
     record {
-      object_room = simp length-set (omega arith);
-      method_room = omega arith;
-      objects_small = omega arith;
-      methods_small = omega arith;
-      objects_fit = omega arith;
-      methods_fit = omega arith;
-      laid_out = laid_after s t (methods_of es c.args.env) (length es) w (sym (length-map es (method_of c.args.env))) (omega arith);
+      laid_out = laid_after s c.write_methods-span.new.self c.add.new.self (methods_of es c.args.env) (length es) w.written c.write_methods-span.result w.first w.size c.add.ensures (sym (length-map es (method_of c.args.env))) room.objects room.methods;
     }
 
 pub returns : goal.returns
 returns c =
     let s = c.args.self.now in
-    let t = c.write_methods.new.self in
-    let w = c.write_methods.ensures in
     let es = c.args.entries.now in
-    let room = room_is _ _ _ _ _ (told s) (length es) (omega arith) (omega arith) in
-    let objects = objects_after s t (methods_of es c.args.env) (length es) w (sym (length-map es (method_of c.args.env))) (omega arith) in
+    let w = c.write_methods-span.ensures in
+    let room = roomed s.areas (length es) c.in_ok-location.location c.in_ok-location.ensures in
+    let r = c.in_ok-location.ensures ∙ room_is _ _ _ _ _ (told s) (length es) in
     record {
-      answer = room;
+      answer = r;
       state =
-          (λ i. record { objects = objects i; object_limit = w.object_limit_is i; method_limit = w.method_limit_is i; trial = no_trial })
-          ∙ made_is _ _ _ _ _ (told s) es c.args.env _ room;
+          meaning_after s c.write_methods-span.new.self c.add.new.self (methods_of es c.args.env) (length es) w.written c.write_methods-span.result w.first w.size c.add.ensures (sym (length-map es (method_of c.args.env))) room.objects room.methods
+          ∙ made_is _ _ _ _ _ (told s) es c.args.env _ r;
     }

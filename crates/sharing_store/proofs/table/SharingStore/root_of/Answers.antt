@@ -1,8 +1,16 @@
+use Rattle.std.proofs.Common.{◌≡◌, subst}
+use Rattle.sharing_store.specs.declared.entries.SharedEntry.{SharedEntry}
+use Rattle.sharing_store.specs.Views.{no_entry}
 use Rattle.sharing_store.proofs.More.{root_itself, root_shared}
 use Rattle.sharing_store.proofs.table.SharingStore.root_of.Goals as goal
 
 pub returns-then-entry : goal.returns-then-entry
-returns-then-entry c = root_itself c.args.self.now c.args.location c.requires c.if-entry.true
+returns-then-entry c =
+    let full = subst (λ (x : SharedEntry). x.held ≡ x.first) (c.at-entry.ensures no_entry) c.if-entry.true in
+    root_itself c.args.self.now c.args.location c.requires full
 
 pub returns-else-entry : goal.returns-else-entry
-returns-else-entry c = root_shared c.args.self.now c.args.location c.requires c.if-entry.false
+returns-else-entry c =
+    let e = c.at-entry.ensures no_entry in
+    let un = subst (λ (x : SharedEntry). x.held ≡ x.first → ⊥) e c.if-entry.false in
+    rw e (root_shared c.args.self.now c.args.location c.requires un)

@@ -1,5 +1,5 @@
 use Rattle.std.proofs.Common.{sym, ◌∙◌, arith, length-take-le}
-use Rattle.trial_layer.proofs.Entries.{nth_take}
+use Rattle.store.proofs.Nth.{nth_take}
 use Rattle.trial_layer.proofs.book.Book.note_at.Goals as goal
 
 pub returns : goal.returns
