@@ -1,7 +1,4 @@
 -- What a machine holds, by its used parts.
-use Rattle.std.specs.Prelude.{ℕ, List, pos, slice_index_or}
-use Rattle.calculus.specs.declared.values.Value.{Value}
-use Rattle.calculus.specs.declared.values.Value.TheVariants.{Figure}
 use Rattle.store.specs.Meaning.{Meaning}
 use Rattle.machine_model.specs.declared.answers.Stop.{Stop}
 use Rattle.machine_model.specs.State.{State}
@@ -10,12 +7,8 @@ use Rattle.machine_steps.specs.Parts.{state_at}
 use Rattle.machine.specs.declared.machine.Machine.{Machine}
 
 abbrev pub state_of : Machine → State
-state_of m = state_at m.registers m.cells m.frames
+state_of m = state_at m.state
 
 -- why a run stops, with the machine and the store's meaning that it leaves
 abbrev pub ran_of : Stop → Machine → Meaning → Ran
 ran_of c m k = record { stop = c; state = state_of m; store = k }
-
--- the given at a place that there is
-abbrev pub given_at : List Value → ℕ → Value
-given_at vs i = slice_index_or vs i (Figure (pos 0))

@@ -1,11 +1,8 @@
 //! The machine.
-use calculus::stack::Stack;
-use machine_model::state::{Cell, Frame, Registers};
+use machine_steps::state::State;
 
-/// Cells, return frames and registers. They may hold anything: whatever a call reads it looks at first.
+/// A machine: its state, with the calls of this crate. The state may hold anything: whatever a call reads it looks at first.
 #[derive(Drop)]
 pub struct Machine<'a> {
-    pub cells: Stack<'a, Cell>,
-    pub frames: Stack<'a, Frame>,
-    pub registers: Registers,
+    pub state: State<'a>,
 }

@@ -4,19 +4,15 @@ ghost use Rattle.calculus.specs.Text.{text_of};
 ghost use Rattle.machine_model.specs.Settle.{Sound, fits};
 ghost use Rattle.machine_model.specs.Run.{turn, run_for};
 ghost use Rattle.machine_model.specs.Outcome.{place_in, answered, over, progress_after, with_progress, run_text, run_outcome};
-ghost use Rattle.machine_steps.specs.Parts.{state_at, turn_of};
+ghost use Rattle.machine_steps.specs.Parts.{turn_of};
 ghost use Rattle.machine.specs.Machine.{state_of, ran_of};
 
 use crate::machine::Machine;
-use calculus::area::used_of;
-use calculus::code::{Code, Counts, Tables};
+use calculus::code::{Code, CodeArea};
 use calculus::refusals::Place;
-use calculus::stack::Stack;
 use machine_model::answers::{Fault, RunAnswer, Stop};
-use machine_model::state::{Cell, Frame, Progress, Registers};
+use machine_model::state::{Frame, Progress, Registers};
 use machine_steps::deciding::decide;
-use machine_steps::reducing::act;
-use machine_steps::settling::settle;
 use store::store::Store;
 
 /// More transitions than any allowance leads to.
@@ -24,54 +20,36 @@ const TRANSITIONS_LIMIT: u64 = 1 << 34;
 /// More reductions than any allowance allows.
 const REDUCTIONS_LIMIT: u64 = 1 << 32;
 
-/// Makes all that is due and then one reduction, of the `left` that may still be made.
-fn turn<S: Store>(
-    registers: &mut Registers,
-    cells: &mut Stack<'_, Cell>,
-    frames: &mut Stack<'_, Frame>,
-    code: &Code<'_>,
-    store: &mut S,
-    left: u32,
-) -> Result<(), Stop>
-    requires { Sound (state_at registers.old cells.old frames.old) }
-    ensures { turn_of result registers.new cells.new frames.new (S.meaning store.new) ≡ turn left (text_of code.now) (state_at registers.old cells.old frames.old) (S.meaning store.old) }
-{
-    let redex = settle(registers, cells, frames, code)?;
-    let action = decide(code, store, redex)?;
-    if left == 0 {
-        return Err(Stop::Paused);
-    }
-    if registers.allowance == 0 {
-        return Err(Stop::Refused(Fault::AllowanceSpent));
-    }
-    act(registers, cells, frames, code, store, action)?;
-    Ok(())
-}
-
 impl<'a> Machine<'a> {
-    /// Runs until something stops it, on a copy of the registers that stays close at hand.
+    /// Makes all that is due and then one reduction, of the `left` that may still be made.
+    fn turn<S: Store>(&mut self, code: &Code<'_>, store: &mut S, left: u32) -> Result<(), Stop>
+        requires { Sound (state_of self.old) }
+        ensures { turn_of result self.new.state (S.meaning store.new) ≡ turn left (text_of code.now) (state_of self.old) (S.meaning store.old) }
+    {
+        let redex = self.state.settle(code)?;
+        let action = decide(code, store, redex)?;
+        if left == 0 {
+            return Err(Stop::Paused);
+        }
+        if self.state.registers.allowance == 0 {
+            return Err(Stop::Refused(Fault::AllowanceSpent));
+        }
+        self.state.act(code, store, action)?;
+        Ok(())
+    }
+
+    /// Runs until something stops it.
     fn work<S: Store>(&mut self, code: &Code<'_>, store: &mut S, n: u32) -> Stop
         requires { Sound (state_of self.old) }
         ensures { ran_of result self.new (S.meaning store.new) ≡ run_for n (text_of code.now) (state_of self.old) (S.meaning store.old) }
     {
-        let mut registers = self.registers;
-        let mut left = n;
-        loop {
-            match turn(
-                &mut registers,
-                &mut self.cells,
-                &mut self.frames,
-                code,
-                store,
-                left,
-            ) {
-                Ok(()) => left -= 1,
-                Err(stop) => {
-                    self.registers = registers;
-                    return stop;
-                }
+        for left in (0..=n).rev() {
+            if let Err(stop) = self.turn(code, store, left) {
+                return stop;
             }
         }
+        // a turn with none left has stopped before
+        Stop::Paused
     }
 
     /// Whether no count can pass its limit, whatever the program does with its allowance.
@@ -83,15 +61,12 @@ impl<'a> Machine<'a> {
             allowance,
             report,
             ..
-        } = self.registers;
-        let frames = self.frames.len() as u64;
+        } = self.state.registers;
+        let frames = self.state.frames.len() as u64;
         if report.transitions >= TRANSITIONS_LIMIT || frames >= TRANSITIONS_LIMIT {
             return false;
         }
-        let vacant = match accumulator {
-            None => 1,
-            Some(_) => 0,
-        };
+        let vacant = u64::from(accumulator.is_none());
         let allowance = allowance as u64;
         let reductions = report.objects as u64
             + report.selects as u64
@@ -105,9 +80,9 @@ impl<'a> Machine<'a> {
     /// The answer to a stop. All but a pause end the program.
     fn answer(&mut self, stop: Stop) -> RunAnswer
         ensures answer { result ≡ answered stop (state_of self.old) }
-        ensures state { state_of self.new ≡ with_progress (state_of self.old) (progress_after stop self.old.registers.progress) }
+        ensures state { state_of self.new ≡ with_progress (state_of self.old) (progress_after stop self.old.state.registers.progress) }
     {
-        let report = self.registers.report;
+        let report = self.state.registers.report;
         match stop {
             Stop::Done(value) => {
                 self.end();
@@ -118,7 +93,7 @@ impl<'a> Machine<'a> {
                 self.end();
                 RunAnswer::Refused {
                     fault,
-                    place: place_of(fault, self.registers.at),
+                    place: place_of(fault, self.state.registers.at),
                     report,
                 }
             }
@@ -127,10 +102,10 @@ impl<'a> Machine<'a> {
 
     /// Ends the program that is running, if one is.
     fn end(&mut self)
-        ensures { state_of self.new ≡ with_progress (state_of self.old) (over self.old.registers.progress) }
+        ensures { state_of self.new ≡ with_progress (state_of self.old) (over self.old.state.registers.progress) }
     {
-        if let Progress::Running = self.registers.progress {
-            self.registers.progress = Progress::Ended;
+        if let Progress::Running = self.state.registers.progress {
+            self.state.registers.progress = Progress::Ended;
         }
     }
 
@@ -140,7 +115,7 @@ impl<'a> Machine<'a> {
         ensures state { state_of self.new ≡ (run_text n (text_of code.now) (state_of self.old) (S.meaning store.old)).state }
         ensures store { S.meaning store.new ≡ (run_text n (text_of code.now) (state_of self.old) (S.meaning store.old)).store }
     {
-        match self.registers.progress {
+        match self.state.registers.progress {
             Progress::Running => {
                 if self.fits() {
                     let stop = self.work(code, store, n);
@@ -154,18 +129,12 @@ impl<'a> Machine<'a> {
     }
 
     /// Runs the program for at most `n` reductions.
-    pub fn run<S: Store>(
-        &mut self,
-        tables: &Tables<'_>,
-        counts: Counts,
-        store: &mut S,
-        n: u32,
-    ) -> RunAnswer
-        ensures answer { result ≡ (run_outcome n tables.now counts (state_of self.old) (S.meaning store.old)).answer }
-        ensures state { state_of self.new ≡ (run_outcome n tables.now counts (state_of self.old) (S.meaning store.old)).state }
-        ensures store { S.meaning store.new ≡ (run_outcome n tables.now counts (state_of self.old) (S.meaning store.old)).store }
+    pub fn run<S: Store>(&mut self, area: &CodeArea<'_>, store: &mut S, n: u32) -> RunAnswer
+        ensures answer { result ≡ (run_outcome n area.now.tables area.now.counts (state_of self.old) (S.meaning store.old)).answer }
+        ensures state { state_of self.new ≡ (run_outcome n area.now.tables area.now.counts (state_of self.old) (S.meaning store.old)).state }
+        ensures store { S.meaning store.new ≡ (run_outcome n area.now.tables area.now.counts (state_of self.old) (S.meaning store.old)).store }
     {
-        match used_of(tables, counts) {
+        match area.used() {
             Some(code) => self.run_over(&code, store, n),
             None => self.answer(Stop::Refused(Fault::CountOutside)),
         }

@@ -2,34 +2,26 @@
 ghost use Rattle.std.specs.Prelude.{◌≡◌, ℕ, ◌+◌, ◌<◌, ◌≤◌, [], ◌∷◌, ◌++◌, length, OnOk, nat_le};
 ghost use Rattle.calculus.specs.Held.{counted, laid, room};
 ghost use Rattle.calculus.specs.Text.{text_of};
-ghost use Rattle.machine_model.specs.Start.{givens_of, present, all_present, start_for, start_result, start_answer, start_state, started_if, cells_with, env_with, registers_at, begun, unused};
-ghost use Rattle.machine.specs.Machine.{state_of, given_at};
+ghost use Rattle.machine_model.specs.Start.{givens_of, present, all_present, start_for, start_result, start_answer, start_state, started_if, cells_with, env_with, begun, unused};
+ghost use Rattle.machine.specs.Machine.{state_of};
 
 use crate::machine::Machine;
-use calculus::area::used_of;
-use calculus::code::{Code, Counts, Tables};
+use calculus::code::{Code, CodeArea};
 use calculus::lookup::entry_at;
 use calculus::refusals::Refusal;
 use calculus::stack::Stack;
 use calculus::values::Value;
-use machine_model::state::{Cell, Frame, Progress, Registers, Report};
+use machine_model::state::{Cell, Frame, Progress, Registers};
 use machine_steps::fetching::add_cell;
+use machine_steps::state::State;
 use store::store::Store;
 
 /// The number of givens of a program, if there is one of this number.
 fn givens_of(code: &Code<'_>, program: u32) -> Option<u32>
     ensures { result ≡ givens_of (text_of code.now) program }
 {
-    match entry_at(code.contents, program as usize) {
-        None => None,
-        Some(entry) => {
-            if entry.mark == 0 {
-                None
-            } else {
-                Some(entry.mark - 1)
-            }
-        }
-    }
+    let entry = entry_at(code.contents, program as usize)?;
+    entry.mark.checked_sub(1)
 }
 
 /// Whether a value names no object that is missing among so many.
@@ -46,12 +38,7 @@ fn is_present(value: Value, objects: u32) -> bool
 fn are_present(givens: &[Value], objects: u32) -> bool
     ensures { result ≡ all_present objects givens.now }
 {
-    for value in givens {
-        if !is_present(*value, objects) {
-            return false;
-        }
-    }
-    true
+    givens.iter().all(|value| is_present(*value, objects))
 }
 
 /// Whether so many cells more find room.
@@ -63,23 +50,6 @@ fn have_room(cells: &Stack<'_, Cell>, more: usize) -> bool
     used <= room && more <= room - used
 }
 
-/// Adds a cell with the given at a place, and answers the environment that begins with it.
-fn bind_given(cells: &mut Stack<'_, Cell>, givens: &[Value], place: usize, env: u32) -> u32
-    requires place { place < length givens.now }
-    requires room { length (laid cells.old) < room cells.old }
-    ensures cells { laid cells.new ≡ laid cells.old ++ (record { value = given_at givens.now place; parent = env } ∷ []) }
-    ensures room { room cells.new ≡ room cells.old }
-    ensures env { result ≡ length (laid cells.old) + 1 }
-{
-    add_cell(
-        cells,
-        Cell {
-            value: givens[place],
-            parent: env,
-        },
-    )
-}
-
 /// Puts the givens into cells, the last given first, and answers the environment that they make.
 fn bind_givens(cells: &mut Stack<'_, Cell>, givens: &[Value]) -> u32
     requires { length (laid cells.old) + length givens.now ≤ room cells.old }
@@ -88,33 +58,14 @@ fn bind_givens(cells: &mut Stack<'_, Cell>, givens: &[Value]) -> u32
     ensures env { result ≡ env_with (laid cells.old) givens.now }
 {
     let mut env = 0;
-    let mut left = givens.len();
-    while left > 0 {
-        left -= 1;
-        env = bind_given(cells, givens, left, env);
+    for given in givens.iter().rev() {
+        let cell = Cell {
+            value: *given,
+            parent: env,
+        };
+        env = add_cell(cells, cell);
     }
     env
-}
-
-/// The registers at the begin of a list.
-fn registers_at(list: u32, env: u32, allowance: u32, progress: Progress) -> Registers
-    ensures { result ≡ registers_at list env allowance progress }
-{
-    let report = Report {
-        transitions: 0,
-        objects: 0,
-        selects: 0,
-        updates: 0,
-        clones: 0,
-        lets: 0,
-    };
-    Registers {
-        at: Frame { list, next: 0, env },
-        accumulator: None,
-        allowance,
-        report,
-        progress,
-    }
 }
 
 impl<'a> Machine<'a> {
@@ -122,11 +73,12 @@ impl<'a> Machine<'a> {
     pub fn new(cells: &'a mut [Cell], frames: &'a mut [Frame]) -> Machine<'a>
         ensures { state_of result ≡ unused (counted (length cells.old)) (counted (length frames.old)) }
     {
-        let registers = registers_at(0, 0, 0, Progress::Unused);
         Machine {
-            cells: Stack::new(cells),
-            frames: Stack::new(frames),
-            registers,
+            state: State {
+                registers: Registers::default(),
+                cells: Stack::new(cells),
+                frames: Stack::new(frames),
+            },
         }
     }
 
@@ -139,22 +91,19 @@ impl<'a> Machine<'a> {
         givens: &[Value],
     ) -> Result<(), Refusal>
         ensures answer { result ≡ start_for (givens_of (text_of code.now) program) objects (state_of self.now) givens.now }
-        ensures room { OnOk result (length (laid self.now.cells) + length givens.now ≤ room self.now.cells) }
+        ensures room { OnOk result (length (laid self.now.state.cells) + length givens.now ≤ room self.now.state.cells) }
     {
-        match givens_of(code, program) {
-            None => Err(Refusal::NoProgram),
-            Some(count) => {
-                if count as usize != givens.len() {
-                    Err(Refusal::WrongGivens)
-                } else if !are_present(givens, objects) {
-                    Err(Refusal::NoSuchObject)
-                } else if !have_room(&self.cells, givens.len()) {
-                    Err(Refusal::CellsShort)
-                } else {
-                    Ok(())
-                }
-            }
+        let count = givens_of(code, program).ok_or(Refusal::NoProgram)?;
+        if count as usize != givens.len() {
+            return Err(Refusal::WrongGivens);
         }
+        if !are_present(givens, objects) {
+            return Err(Refusal::NoSuchObject);
+        }
+        if !have_room(&self.state.cells, givens.len()) {
+            return Err(Refusal::CellsShort);
+        }
+        Ok(())
     }
 
     /// Starts a program over the used parts of the code.
@@ -169,32 +118,38 @@ impl<'a> Machine<'a> {
         ensures answer { result ≡ start_result (text_of code.now) (state_of self.old) (S.meaning store.now) program givens.now }
         ensures state { state_of self.new ≡ started_if (start_result (text_of code.now) (state_of self.old) (S.meaning store.now) program givens.now) (state_of self.old) (begun (state_of self.old) program givens.now allowance) }
     {
-        if let Progress::Running = self.registers.progress {
+        if let Progress::Running = self.state.registers.progress {
             return Err(Refusal::Running);
         }
         self.can_start(code, store.object_count(), program, givens)?;
-        let env = bind_givens(&mut self.cells, givens);
-        self.frames.clear();
-        self.registers = registers_at(program, env, allowance, Progress::Running);
+        let env = bind_givens(&mut self.state.cells, givens);
+        self.state.frames.clear();
+        self.state.registers = Registers {
+            at: Frame {
+                list: program,
+                next: 0,
+                env,
+            },
+            allowance,
+            progress: Progress::Running,
+            ..Registers::default()
+        };
         Ok(())
     }
 
     /// Starts a program with its givens and an allowance of reductions.
     pub fn start<S: Store>(
         &mut self,
-        tables: &Tables<'_>,
-        counts: Counts,
+        area: &CodeArea<'_>,
         store: &S,
         program: u32,
         givens: &[Value],
         allowance: u32,
     ) -> Result<(), Refusal>
-        ensures answer { result ≡ start_answer tables.now counts (state_of self.old) (S.meaning store.now) program givens.now }
-        ensures state { state_of self.new ≡ start_state tables.now counts (state_of self.old) (S.meaning store.now) program givens.now allowance }
+        ensures answer { result ≡ start_answer area.now.tables area.now.counts (state_of self.old) (S.meaning store.now) program givens.now }
+        ensures state { state_of self.new ≡ start_state area.now.tables area.now.counts (state_of self.old) (S.meaning store.now) program givens.now allowance }
     {
-        match used_of(tables, counts) {
-            None => Err(Refusal::CountOutside),
-            Some(code) => self.start_over(&code, store, program, givens, allowance),
-        }
+        let code = area.used().ok_or(Refusal::CountOutside)?;
+        self.start_over(&code, store, program, givens, allowance)
     }
 }

@@ -1,5 +1,5 @@
 -- What the next operation of a list is, where the list stands for a tree, and what a variable's value is.
-use Rattle.std.proofs.Common.{slice_get, ◌≡◌, ℕ, zero, suc, ◌+◌, ◌-◌, ◌≤◌, List, [], ◌∷◌, ℤ, Some, None, refl, ap, ◌∙◌, subst, sub-one, arith, lt-ltb, eq-eqb, ne_eqb}
+use Rattle.std.proofs.Common.{slice_get, ◌≡◌, ℕ, zero, suc, ◌+◌, ◌-◌, ◌≤◌, List, [], ◌∷◌, ℤ, Some, None, Ok, Err, refl, ap, ◌∙◌, subst, sub-one, arith, lt-ltb, eq-eqb, ne_eqb}
 use Rattle.std.proofs.lemmas.Bool.{cond-true, cond-false, le-ltb}
 use Rattle.calculus.specs.Places.{if_some}
 use Rattle.calculus.specs.Text.{Text}
@@ -8,8 +8,8 @@ use Rattle.calculus.specs.Standing.{RestAt, BodiesAt, Stands, AtCode, AtRest}
 use Rattle.calculus.specs.declared.code.ListEntry.{ListEntry}
 use Rattle.calculus.specs.declared.code.Operation.{Operation}
 use Rattle.calculus.specs.declared.code.Operation.TheVariants as op
+use Rattle.machine_model.specs.declared.answers.Fault.TheVariants as fault
 use Rattle.machine_model.specs.declared.state.Cell.{Cell}
-use Rattle.machine_model.specs.declared.steps.Fetched.TheVariants.{Found, Ended, Outside}
 use Rattle.machine_model.specs.State.{fetched_from, fetched, cell_of, walked, variable}
 use Rattle.semantics.specs.Machine.{Env}
 use Rattle.semantics.specs.Machine as tree
@@ -40,51 +40,51 @@ rest_up T l p q (let_op c r) h = let k = rest_up T l (suc p) q r h.3 in omega ar
 
 -- the operation at a place, and the end
 fetch_at : (T : Text) (l i : ℕ) (e : ListEntry) (o : Operation) → slice_get T.contents l ≡ Some e → suc (e.first + i) ≤ e.first + e.len → slice_get T.operations (e.first + i) ≡ Some o →
-    fetched T l i ≡ Found o
+    fetched T l i ≡ Ok (Some o)
 fetch_at T l i e o h k g =
-    ap (λ x. if_some x (λ y. fetched_from T.operations y i) Outside) h ∙ cond-true _ _ _ (lt-ltb i e.len (omega arith)) ∙ ap (λ x. if_some x Found Outside) g
+    ap (λ x. if_some x (λ y. fetched_from T.operations y i) (Err fault.Astray)) h ∙ cond-true _ _ _ (lt-ltb i e.len (omega arith)) ∙ ap (λ x. if_some x (λ y. Ok (Some y)) (Err fault.Astray)) g
 
-fetch_end : (T : Text) (l i : ℕ) (e : ListEntry) → slice_get T.contents l ≡ Some e → e.first + i ≡ e.first + e.len → fetched T l i ≡ Ended
+fetch_end : (T : Text) (l i : ℕ) (e : ListEntry) → slice_get T.contents l ≡ Some e → e.first + i ≡ e.first + e.len → fetched T l i ≡ Ok None
 fetch_end T l i e h k =
-    ap (λ x. if_some x (λ y. fetched_from T.operations y i) Outside) h ∙ cond-false _ _ _ (le-ltb i e.len (omega arith)) ∙ cond-true _ _ _ (eq-eqb i e.len (omega arith))
+    ap (λ x. if_some x (λ y. fetched_from T.operations y i) (Err fault.Astray)) h ∙ cond-false _ _ _ (le-ltb i e.len (omega arith)) ∙ cond-true _ _ _ (eq-eqb i e.len (omega arith))
 
 module _ (T : Text) (l i : ℕ) where
-  pub fetch_done : AtRest T l i done → fetched T l i ≡ Ended
+  pub fetch_done : AtRest T l i done → fetched T l i ≡ Ok None
   fetch_done h = fetch_end T l i h.entry h.found h.holds
 
   -- the operation, and what comes after it
   on : (o : Operation) (r : Rest) (e : ListEntry) → slice_get T.contents l ≡ Some e → slice_get T.operations (e.first + i) ≡ Some o → RestAt T l (suc (e.first + i)) (e.first + e.len) r →
-      (fetched T l i ≡ Found o) × AtRest T l (i + 1) r
+      (fetched T l i ≡ Ok (Some o)) × AtRest T l (i + 1) r
   on o r e h g k =
       let z : suc (e.first + i) ≡ e.first + (i + 1) = omega arith in (
         fetch_at T l i e o h (rest_up T l (suc (e.first + i)) (e.first + e.len) r k) g,
         record { entry = e; found = h; holds = subst (λ x. RestAt T l x (e.first + e.len) r) z k },
       )
 
-  pub fetch_select : (x : ℕ) (r : Rest) → AtRest T l i (select_op x r) → (fetched T l i ≡ Found (op.Select x)) × AtRest T l (i + 1) r
+  pub fetch_select : (x : ℕ) (r : Rest) → AtRest T l i (select_op x r) → (fetched T l i ≡ Ok (Some (op.Select x))) × AtRest T l (i + 1) r
   fetch_select x r h = on (op.Select x) r h.entry h.found h.holds.0 h.holds.1
 
-  pub fetch_update : (x : ℕ) (c : Code) (r : Rest) → AtRest T l i (update_op x c r) → (b : ℕ) × (fetched T l i ≡ Found (op.Update x b)) × Stands T b c × AtRest T l (i + 1) r
+  pub fetch_update : (x : ℕ) (c : Code) (r : Rest) → AtRest T l i (update_op x c r) → (b : ℕ) × (fetched T l i ≡ Ok (Some (op.Update x b))) × Stands T b c × AtRest T l (i + 1) r
   fetch_update x c r h =
       let k = h.holds in
       let z = on (op.Update x k.0) r h.entry h.found k.1 k.3 in (k.0, z.0, k.2.listed, z.1)
 
-  pub fetch_clone : (r : Rest) → AtRest T l i (clone_op r) → (fetched T l i ≡ Found op.Clone) × AtRest T l (i + 1) r
+  pub fetch_clone : (r : Rest) → AtRest T l i (clone_op r) → (fetched T l i ≡ Ok (Some op.Clone)) × AtRest T l (i + 1) r
   fetch_clone r h = on op.Clone r h.entry h.found h.holds.0 h.holds.1
 
-  pub fetch_let : (c : Code) (r : Rest) → AtRest T l i (let_op c r) → (b : ℕ) × (fetched T l i ≡ Found (op.Let b)) × Stands T b c × AtRest T l (i + 1) r
+  pub fetch_let : (c : Code) (r : Rest) → AtRest T l i (let_op c r) → (b : ℕ) × (fetched T l i ≡ Ok (Some (op.Let b))) × Stands T b c × AtRest T l (i + 1) r
   fetch_let c r h =
       let k = h.holds in
       let z = on (op.Let k.0) r h.entry h.found k.1 k.3 in (k.0, z.0, k.2.listed, z.1)
 
-  pub fetch_access : (j : ℕ) (r : Rest) → AtCode T l i (access_op j r) → (fetched T l i ≡ Found (op.Access j)) × AtRest T l (i + 1) r
+  pub fetch_access : (j : ℕ) (r : Rest) → AtCode T l i (access_op j r) → (fetched T l i ≡ Ok (Some (op.Access j))) × AtRest T l (i + 1) r
   fetch_access j r h = on (op.Access j) r h.entry h.found h.holds.0 h.holds.1
 
-  pub fetch_figure : (k : ℤ) (r : Rest) → AtCode T l i (figure_op k r) → (fetched T l i ≡ Found (op.Figure k)) × AtRest T l (i + 1) r
+  pub fetch_figure : (k : ℤ) (r : Rest) → AtCode T l i (figure_op k r) → (fetched T l i ≡ Ok (Some (op.Figure k))) × AtRest T l (i + 1) r
   fetch_figure k r h = on (op.Figure k) r h.entry h.found h.holds.0 h.holds.1
 
   pub fetch_object : (bs : Bodies) (r : Rest) → AtCode T l i (object_op bs r) →
-      (f : ℕ) × (n : ℕ) × (fetched T l i ≡ Found (op.Object f n)) × BodiesAt T l f n bs × AtRest T l (i + 1) r
+      (f : ℕ) × (n : ℕ) × (fetched T l i ≡ Ok (Some (op.Object f n))) × BodiesAt T l f n bs × AtRest T l (i + 1) r
   fetch_object bs r h =
       let k = h.holds in
       let z = on (op.Object k.0 k.1) r h.entry h.found k.2 k.4 in (k.0, k.1, z.0, k.3, z.1)

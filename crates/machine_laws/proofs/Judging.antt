@@ -119,7 +119,7 @@ module _ (T : Text) (s : State) (m : Meaning) (σ : TreeStore) (hs : StoreStands
   abbrev f : Frame
   f = s.registers.at
 
-  abbrev Judged : Due → tree.State → Type 0
+  abbrev Judged : Result Due Fault → tree.State → Type 0
   Judged d S = Judgement T s m S σ (looked_at T m d)
 
   module _ (vs : Env) (r : Rest) (rs : List tree.Frame) (hr : AtRest T f.list (f.next + 1) r) (he : EnvStands s.cells f.env vs) (hw : FramesStand T s.cells s.frames rs) where
@@ -202,22 +202,22 @@ module _ (T : Text) (s : State) (m : Meaning) (σ : TreeStore) (hs : StoreStands
     judge_clone n _ _ po px (there o x h) = judged_ready (Copied n) (adds cloning o) tt (acts_copy T s m n o po) (adding cloning (full (clone_op r) vs (Location n) rs) o x (β_clone px) h)
 
     -- of a figure, or of an object
-    selected : (v : Value) (l : ℕ) → Judged (due.Reduce (redex.Select v l)) (full (select_op l r) vs v rs)
+    selected : (v : Value) (l : ℕ) → Judged (Ok (due.Reduce (redex.Select v l))) (full (select_op l r) vs v rs)
     selected (Figure k) l = judged_20 (figure_at vs r (select (val (Figure k)) l) select_figure)
     selected (Location n) l = judge_select n l _ _ refl refl (locates T s.cells m.objects σ n hs)
 
-    changed : (v : Value) (l b : ℕ) (c : Code) → Stands T b c → Judged (due.Reduce (redex.Update v l b)) (full (update_op l c r) vs v rs)
+    changed : (v : Value) (l b : ℕ) (c : Code) → Stands T b c → Judged (Ok (due.Reduce (redex.Update v l b))) (full (update_op l c r) vs v rs)
     changed (Figure k) l b c hb = judged_20 (figure_at vs r (update (val (Figure k)) l (unload_code 1 vs c)) update_figure)
     changed (Location n) l b c hb = judge_update n l b c _ _ refl refl (locates T s.cells m.objects σ n hs) hb
 
-    cloned : (v : Value) → Judged (due.Reduce (redex.Clone v)) (full (clone_op r) vs v rs)
+    cloned : (v : Value) → Judged (Ok (due.Reduce (redex.Clone v))) (full (clone_op r) vs v rs)
     cloned (Figure k) = judged_20 (figure_at vs r (clone (val (Figure k))) clone_figure)
     cloned (Location n) = judge_clone n _ _ refl refl (locates T s.cells m.objects σ n hs)
 
-    let_in : (v : Value) (b : ℕ) (c : Code) → Stands T b c → Judged (due.Reduce (redex.Let v b)) (full (let_op c r) vs v rs)
+    let_in : (v : Value) (b : ℕ) (c : Code) → Stands T b c → Judged (Ok (due.Reduce (redex.Let v b))) (full (let_op c r) vs v rs)
     let_in v b c hb = judged_ready (Bind v b) (enters letting v f.env b) tt (acts_enter T s m letting v f.env b) (going_in letting (full (let_op c r) vs v rs) v f.env b c vs β_let hb he)
 
-    made : (p n : ℕ) (bs : Bodies) → BodiesAt T f.list p n bs → Judged (due.Reduce (redex.Object p n)) (empty (object_op bs r) vs rs)
+    made : (p n : ℕ) (bs : Bodies) → BodiesAt T f.list p n bs → Judged (Ok (due.Reduce (redex.Object p n))) (empty (object_op bs r) vs rs)
     made p n bs hb =
         let o : Object = methods_of (entries_at T p n) f.env in
         subst (λ y. Judgement T s m (empty (object_op bs r) vs rs) σ (or_stop y))
@@ -230,7 +230,7 @@ module _ (T : Text) (s : State) (m : Meaning) (σ : TreeStore) (hs : StoreStands
       let p = variable_none vs j h in
       lost_at vs r (inst_var 0 vs j) (length (unload_store σ)) (subst (λ a. Closed 0 a → Within (length (unload_store σ)) a → ⊥) (sym p.1) (λ c w. omega (arith, c.0, c.1)))
 
-  pub judges : (S : tree.State) (d : Due) → StateStands T s S → DueStands T f d S → Judgement T s m S σ (looked_at T m d)
+  pub judges : (S : tree.State) (d : Result Due Fault) → StateStands T s S → DueStands T f d S → Judgement T s m S σ (looked_at T m d)
   judges (empty (access_op j r) vs rs) d h g = subst (λ x. Judged x (empty (access_op j r) vs rs)) (sym g.0) (judged_lost fault.Astray (unbound j r vs rs g.1))
   judges (empty (figure_op k r) vs rs) d h g = absurd g
   judges (empty (object_op bs r) vs rs) d h g = subst (λ x. Judged x (empty (object_op bs r) vs rs)) (sym g.2) (made vs r rs g.4 h.2 h.3 g.0 g.1 bs g.3)

@@ -1,14 +1,16 @@
 -- The silent transitions of the table machine.
-use Rattle.std.proofs.Common.{◌≡◌, ℕ, ◌+◌, false, List, [], ◌∷◌, Some, None, Option, sym, refl, ap, ◌∙◌, subst, arith}
+use Rattle.std.proofs.Common.{◌≡◌, ℕ, ◌+◌, false, List, [], ◌∷◌, Some, None, Ok, Err, Option, Result, sym, refl, ap, ◌∙◌, subst, arith}
 use Rattle.calculus.specs.Places.{if_some}
 use Rattle.calculus.specs.Text.{Text}
 use Rattle.calculus.specs.Trees.{Code, access_op, figure_op, object_op, Rest, done, select_op, update_op, clone_op, let_op}
 use Rattle.calculus.specs.Standing.{AtCode, AtRest}
 use Rattle.calculus.specs.declared.values.Value.{Value}
 use Rattle.calculus.specs.declared.values.Value.TheVariants as value
+use Rattle.machine_model.specs.declared.answers.Fault.{Fault}
+use Rattle.machine_model.specs.declared.answers.Fault.TheVariants as fault
 use Rattle.machine_model.specs.declared.state.Frame.{Frame}
 use Rattle.machine_model.specs.declared.steps.Due.{Due}
-use Rattle.machine_model.specs.declared.steps.Due.TheVariants.{Fill, Done, Astray, Reduce}
+use Rattle.machine_model.specs.declared.steps.Due.TheVariants.{Fill, Done, Reduce}
 use Rattle.machine_model.specs.declared.steps.Redex.TheVariants as redex
 use Rattle.machine_model.specs.State.{State, due, due_at}
 use Rattle.machine_model.specs.Settle.{stepped, silent, settled, slack}
@@ -22,7 +24,7 @@ use Rattle.machine_laws.proofs.Fetching.{env_variable, fetch_done, fetch_select,
 
 module _ (T : Text) (s : State) where
   -- nothing more is due
-  here : (S : tree.State) (σ : TreeStore) (f : Frame) (a : Option Value) (fs : List Frame) (n : ℕ) (d : Due) → due T (at_point s f a fs n) ≡ d → silent d ≡ false →
+  here : (S : tree.State) (σ : TreeStore) (f : Frame) (a : Option Value) (fs : List Frame) (n : ℕ) (d : Result Due Fault) → due T (at_point s f a fs n) ≡ d → silent d ≡ false →
       PointStands T s.cells f a fs S → DueStands T f d S → Settling T s n S σ (settled T (at_point s f a fs n))
   here S σ f a fs n d e q h g =
       record {
@@ -63,7 +65,7 @@ module _ (T : Text) (s : State) where
       AtRest T f.list f.next r → EnvStands s.cells f.env vs → FramesStand T s.cells fs rs →
       Settling T s n (full r vs v rs) σ (settled T (at_point s f (Some v) fs n))
   unwinds [] [] f v n done vs σ h he hw =
-      here (full done vs v []) σ f (Some v) [] n (Done v) (ap (λ x. due_at x (Some v) s.cells [] f.env) (fetch_done T f.list f.next h)) refl (refl, h, he, hw) refl
+      here (full done vs v []) σ f (Some v) [] n (Ok (Done v)) (ap (λ x. due_at x (Some v) s.cells [] f.env) (fetch_done T f.list f.next h)) refl (refl, h, he, hw) refl
   unwinds [] (x ∷ rs) f v n done vs σ h he hw = absurd hw
   unwinds (w ∷ fs) [] f v n done vs σ h he hw = absurd hw
   unwinds (w ∷ fs) (closure r' vs' ∷ rs) f v n done vs σ h he hw =
@@ -72,28 +74,28 @@ module _ (T : Text) (s : State) where
       (unwinds fs rs w v (n + 1) r' vs' σ hw.0.0 hw.0.1 hw.1)
   unwinds fs rs f v n (select_op x r) vs σ h he hw =
       let g = fetch_select T f.list f.next x r h in
-      here (full (select_op x r) vs v rs) σ f (Some v) fs n (Reduce (redex.Select v x)) (ap (λ y. due_at y (Some v) s.cells fs f.env) g.0) refl (refl, h, he, hw) (refl, g.1)
+      here (full (select_op x r) vs v rs) σ f (Some v) fs n (Ok (Reduce (redex.Select v x))) (ap (λ y. due_at y (Some v) s.cells fs f.env) g.0) refl (refl, h, he, hw) (refl, g.1)
   unwinds fs rs f v n (update_op x c r) vs σ h he hw =
       let g = fetch_update T f.list f.next x c r h in
-      here (full (update_op x c r) vs v rs) σ f (Some v) fs n (Reduce (redex.Update v x g.0)) (ap (λ y. due_at y (Some v) s.cells fs f.env) g.1) refl (refl, h, he, hw) (g.0, refl, g.2, g.3)
+      here (full (update_op x c r) vs v rs) σ f (Some v) fs n (Ok (Reduce (redex.Update v x g.0))) (ap (λ y. due_at y (Some v) s.cells fs f.env) g.1) refl (refl, h, he, hw) (g.0, refl, g.2, g.3)
   unwinds fs rs f v n (clone_op r) vs σ h he hw =
       let g = fetch_clone T f.list f.next r h in
-      here (full (clone_op r) vs v rs) σ f (Some v) fs n (Reduce (redex.Clone v)) (ap (λ y. due_at y (Some v) s.cells fs f.env) g.0) refl (refl, h, he, hw) (refl, g.1)
+      here (full (clone_op r) vs v rs) σ f (Some v) fs n (Ok (Reduce (redex.Clone v))) (ap (λ y. due_at y (Some v) s.cells fs f.env) g.0) refl (refl, h, he, hw) (refl, g.1)
   unwinds fs rs f v n (let_op c r) vs σ h he hw =
       let g = fetch_let T f.list f.next c r h in
-      here (full (let_op c r) vs v rs) σ f (Some v) fs n (Reduce (redex.Let v g.0)) (ap (λ y. due_at y (Some v) s.cells fs f.env) g.1) refl (refl, h, he, hw) (g.0, refl, g.2, g.3)
+      here (full (let_op c r) vs v rs) σ f (Some v) fs n (Ok (Reduce (redex.Let v g.0))) (ap (λ y. due_at y (Some v) s.cells fs f.env) g.1) refl (refl, h, he, hw) (g.0, refl, g.2, g.3)
 
   -- a value comes into the accumulator
   fills : (S : tree.State) (σ : TreeStore) (f : Frame) (fs : List Frame) (rs : List tree.Frame) (n : ℕ) (v : Value) (r : Rest) (vs : Env) →
-      due T (at_point s f None fs n) ≡ Fill v → Transition (τ loading) S σ (full r vs v rs) σ →
+      due T (at_point s f None fs n) ≡ Ok (Fill v) → Transition (τ loading) S σ (full r vs v rs) σ →
       AtRest T f.list (f.next + 1) r → EnvStands s.cells f.env vs → FramesStand T s.cells fs rs → Settling T s n S σ (settled T (at_point s f None fs n))
   fills S σ f fs rs n v r vs e m hr he hw =
       first loading S (full r vs v rs) σ n _ (settled T (at_point s (stepped f) (Some v) fs (n + 1))) m (settled_fill T (at_point s f None fs n) v e) (unwinds fs rs (stepped f) v (n + 1) r vs σ hr he hw)
 
   fills_variable : (x : Option Value) (j : ℕ) (f : Frame) (fs : List Frame) (rs : List tree.Frame) (n : ℕ) (r : Rest) (vs : Env) (σ : TreeStore) →
-      variable vs j ≡ x → due T (at_point s f None fs n) ≡ if_some x Fill Astray → AtCode T f.list f.next (access_op j r) → AtRest T f.list (f.next + 1) r →
+      variable vs j ≡ x → due T (at_point s f None fs n) ≡ if_some x (λ v. Ok (Fill v)) (Err fault.Astray) → AtCode T f.list f.next (access_op j r) → AtRest T f.list (f.next + 1) r →
       EnvStands s.cells f.env vs → FramesStand T s.cells fs rs → Settling T s n (empty (access_op j r) vs rs) σ (settled T (at_point s f None fs n))
-  fills_variable None j f fs rs n r vs σ hv e h hr he hw = here (empty (access_op j r) vs rs) σ f None fs n Astray e refl (refl, h, he, hw) (refl, hv)
+  fills_variable None j f fs rs n r vs σ hv e h hr he hw = here (empty (access_op j r) vs rs) σ f None fs n (Err fault.Astray) e refl (refl, h, he, hw) (refl, hv)
   fills_variable (Some v) j f fs rs n r vs σ hv e h hr he hw = fills (empty (access_op j r) vs rs) σ f fs rs n v r vs e (τ_access hv) hr he hw
 
   -- with an empty accumulator
@@ -102,13 +104,13 @@ module _ (T : Text) (s : State) where
   loads (access_op j r) f fs rs n vs σ h he hw =
       let g = fetch_access T f.list f.next j r h in
       fills_variable (variable vs j) j f fs rs n r vs σ refl
-      (ap (λ y. due_at y None s.cells fs f.env) g.0 ∙ ap (λ y. if_some y Fill Astray) (env_variable s.cells f.env vs he j)) h g.1 he hw
+      (ap (λ y. due_at y None s.cells fs f.env) g.0 ∙ ap (λ y. if_some y (λ v. Ok (Fill v)) (Err fault.Astray)) (env_variable s.cells f.env vs he j)) h g.1 he hw
   loads (figure_op k r) f fs rs n vs σ h he hw =
       let g = fetch_figure T f.list f.next k r h in
       fills (empty (figure_op k r) vs rs) σ f fs rs n (value.Figure k) r vs (ap (λ y. due_at y None s.cells fs f.env) g.0) τ_figure g.1 he hw
   loads (object_op bs r) f fs rs n vs σ h he hw =
       let g = fetch_object T f.list f.next bs r h in
-      here (empty (object_op bs r) vs rs) σ f None fs n (Reduce (redex.Object g.0 g.1)) (ap (λ y. due_at y None s.cells fs f.env) g.2) refl (refl, h, he, hw) (g.0, g.1, refl, g.3, g.4)
+      here (empty (object_op bs r) vs rs) σ f None fs n (Ok (Reduce (redex.Object g.0 g.1))) (ap (λ y. due_at y None s.cells fs f.env) g.2) refl (refl, h, he, hw) (g.0, g.1, refl, g.3, g.4)
 
 abbrev transitions : State → ℕ
 transitions s = s.registers.report.transitions

@@ -103,7 +103,7 @@ on_redex (Ok r) go = or_stop (go r)
 on_redex (Err c) go = Err c
 
 -- what is due, looked at: done, 19, 20, 21, or what is to be done
-abbrev pub looked_at : Text → Meaning → Due → Result Action Stop
+abbrev pub looked_at : Text → Meaning → Result Due Fault → Result Action Stop
 looked_at T m d = on_redex (rest d) (decided T m)
 
 -- how what is looked at stands in the machine on trees, at a state S with a store σ
@@ -119,5 +119,5 @@ pub data Judgement (T : Text) (s : State) (m : Meaning) (S : tree.State) (σ : T
 -- 19 comes only where the term is not closed or not within its store.
 abbrev pub Judges : Type 0
 Judges =
-    (T : Text) (s : State) (m : Meaning) (S : tree.State) (σ : TreeStore) (d : Due) →
+    (T : Text) (s : State) (m : Meaning) (S : tree.State) (σ : TreeStore) (d : Result Due Fault) →
     StateStands T s S → DueStands T s.registers.at d S → StoreStands T s.cells m.objects σ → Judgement T s m S σ (looked_at T m d)

@@ -1,5 +1,5 @@
 -- What the registers, cells and frames of the table machine, and a store's objects, stand for in the machine on trees.
-use Rattle.std.specs.Prelude.{slice_get, ◌≡◌, ℕ, suc, ◌+◌, List, [], ◌∷◌, Some, None, Option}
+use Rattle.std.specs.Prelude.{slice_get, ◌≡◌, ℕ, suc, ◌+◌, List, [], ◌∷◌, Some, None, Ok, Err, Option, Result}
 use Rattle.calculus.specs.Text.{Text}
 use Rattle.calculus.specs.Trees.{Code, access_op, figure_op, object_op, done, select_op, update_op, clone_op, let_op}
 use Rattle.calculus.specs.Standing.{BodiesAt, Stands, AtCode, AtRest}
@@ -7,6 +7,8 @@ use Rattle.calculus.specs.declared.values.Value.{Value}
 use Rattle.store.specs.declared.closures.Closure.{Closure}
 use Rattle.store.specs.declared.closures.Method.{Method}
 use Rattle.store.specs.Meaning.{Object}
+use Rattle.machine_model.specs.declared.answers.Fault.{Fault}
+use Rattle.machine_model.specs.declared.answers.Fault.TheVariants as fault
 use Rattle.machine_model.specs.declared.state.Cell.{Cell}
 use Rattle.machine_model.specs.declared.state.Frame.{Frame}
 use Rattle.machine_model.specs.declared.steps.Redex.TheVariants as redex
@@ -61,13 +63,13 @@ abbrev pub StateStands : Text → State → tree.State → Type 0
 StateStands T s S = PointStands T s.cells s.registers.at s.registers.accumulator s.frames S
 
 -- what is due at a point where no silent transition is, and what comes after the operation there
-abbrev pub DueStands : Text → Frame → Due → tree.State → Type 0
-DueStands T f d (empty (access_op j r) vs rs) = (d ≡ due.Astray) × (variable vs j ≡ None)
+abbrev pub DueStands : Text → Frame → Result Due Fault → tree.State → Type 0
+DueStands T f d (empty (access_op j r) vs rs) = (d ≡ Err fault.Astray) × (variable vs j ≡ None)
 DueStands T f d (empty (figure_op k r) vs rs) = ⊥
-DueStands T f d (empty (object_op bs r) vs rs) = (p : ℕ) × (n : ℕ) × (d ≡ due.Reduce (redex.Object p n)) × BodiesAt T f.list p n bs × AtRest T f.list (f.next + 1) r
-DueStands T f d (full done vs v []) = d ≡ due.Done v
+DueStands T f d (empty (object_op bs r) vs rs) = (p : ℕ) × (n : ℕ) × (d ≡ Ok (due.Reduce (redex.Object p n))) × BodiesAt T f.list p n bs × AtRest T f.list (f.next + 1) r
+DueStands T f d (full done vs v []) = d ≡ Ok (due.Done v)
 DueStands T f d (full done vs v (r ∷ rs)) = ⊥
-DueStands T f d (full (select_op x r) vs v rs) = (d ≡ due.Reduce (redex.Select v x)) × AtRest T f.list (f.next + 1) r
-DueStands T f d (full (update_op x c r) vs v rs) = (b : ℕ) × (d ≡ due.Reduce (redex.Update v x b)) × Stands T b c × AtRest T f.list (f.next + 1) r
-DueStands T f d (full (clone_op r) vs v rs) = (d ≡ due.Reduce (redex.Clone v)) × AtRest T f.list (f.next + 1) r
-DueStands T f d (full (let_op c r) vs v rs) = (b : ℕ) × (d ≡ due.Reduce (redex.Let v b)) × Stands T b c × AtRest T f.list (f.next + 1) r
+DueStands T f d (full (select_op x r) vs v rs) = (d ≡ Ok (due.Reduce (redex.Select v x))) × AtRest T f.list (f.next + 1) r
+DueStands T f d (full (update_op x c r) vs v rs) = (b : ℕ) × (d ≡ Ok (due.Reduce (redex.Update v x b))) × Stands T b c × AtRest T f.list (f.next + 1) r
+DueStands T f d (full (clone_op r) vs v rs) = (d ≡ Ok (due.Reduce (redex.Clone v))) × AtRest T f.list (f.next + 1) r
+DueStands T f d (full (let_op c r) vs v rs) = (b : ℕ) × (d ≡ Ok (due.Reduce (redex.Let v b))) × Stands T b c × AtRest T f.list (f.next + 1) r

@@ -14,7 +14,7 @@ use Rattle.machine_model.specs.declared.state.Report.{Report}
 use Rattle.machine_model.specs.declared.steps.Action.{Action}
 use Rattle.machine_model.specs.declared.steps.Action.TheVariants.{Make, Call, Put, Copied, Bind}
 use Rattle.machine_model.specs.declared.steps.Due.{Due}
-use Rattle.machine_model.specs.declared.steps.Due.TheVariants.{Fill, Return, Done, Astray, Reduce}
+use Rattle.machine_model.specs.declared.steps.Due.TheVariants.{Fill, Return, Done, Reduce}
 use Rattle.machine_model.specs.State.{State, due}
 use Rattle.machine_model.specs.Settle.{filled, returned_to, slack, on_due, settled_for, settled, rest, reductions, owing, promised, Sound}
 use Rattle.machine_model.specs.Reduce.{Move, decided, acted, located, replaced, room_to_enter, if_ok, entered, enters, entries_at, object_more, select_more, update_more, clone_more, let_more}
@@ -47,11 +47,11 @@ pub sound_on : (s t : State) (n : ℕ) → Goes s t n → Sound s → Sound t
 sound_on s t n g h = record { transitions_fit = omega (arith, g.owing_less, h.transitions_fit); counts_fit = omega (arith, g.promised_same, h.counts_fit) }
 
 -- silent transitions
-goes_due : (k : ℕ) (code : Text) (s : State) → ((t : State) → Goes t (settled_for k code t) 0) → (d : Due) (fs : List Frame) → due code s ≡ d → s.frames ≡ fs → Goes s (on_due d s (settled_for k code)) 0
-goes_due k code s go (Fill v) fs h p =
+goes_due : (k : ℕ) (code : Text) (s : State) → ((t : State) → Goes t (settled_for k code t) 0) → (d : Result Due Fault) (fs : List Frame) → due code s ≡ d → s.frames ≡ fs → Goes s (on_due d s (settled_for k code)) 0
+goes_due k code s go (Ok (Fill v)) fs h p =
     let one : Goes s (filled s v) 0 = record { promised_same = refl; owing_less = omega (arith, due_fills_vacant code s v h); made_more = omega arith; progress_same = refl } in
     then_goes s (filled s v) (settled_for k code (filled s v)) 0 0 one (go (filled s v))
-goes_due k code s go Return fs h p = subst (λ xs. Goes s (settled_for k code (returned_to s xs)) 0) (sym p) (back fs p)
+goes_due k code s go (Ok Return) fs h p = subst (λ xs. Goes s (settled_for k code (returned_to s xs)) 0) (sym p) (back fs p)
   where
     back : (xs : List Frame) → s.frames ≡ xs → Goes s (settled_for k code (returned_to s xs)) 0
     back [] e = go s
@@ -59,9 +59,9 @@ goes_due k code s go Return fs h p = subst (λ xs. Goes s (settled_for k code (r
         let t : State = returned_to s (x ∷ xs) in
         let one : Goes s t 0 = record { promised_same = refl; owing_less = omega (arith, ap length e); made_more = omega arith; progress_same = refl } in
         then_goes s t (settled_for k code t) 0 0 one (go t)
-goes_due k code s go (Done v) fs h p = stays s
-goes_due k code s go Astray fs h p = stays s
-goes_due k code s go (Reduce r) fs h p = stays s
+goes_due k code s go (Ok (Done v)) fs h p = stays s
+goes_due k code s go (Err x) fs h p = stays s
+goes_due k code s go (Ok (Reduce r)) fs h p = stays s
 
 pub goes_settled : (k : ℕ) (code : Text) (s : State) → Goes s (settled_for k code s) 0
 unfolding settled_for

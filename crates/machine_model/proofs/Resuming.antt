@@ -8,7 +8,7 @@ use Rattle.machine_model.specs.declared.answers.Fault.TheVariants as fault
 use Rattle.machine_model.specs.declared.answers.Stop.{Stop}
 use Rattle.machine_model.specs.declared.answers.Stop.TheVariants as stop
 use Rattle.machine_model.specs.declared.steps.Due.{Due}
-use Rattle.machine_model.specs.declared.steps.Due.TheVariants.{Fill, Return, Done, Astray, Reduce}
+use Rattle.machine_model.specs.declared.steps.Due.TheVariants.{Fill, Return, Done, Reduce}
 use Rattle.machine_model.specs.declared.state.Frame.{Frame}
 use Rattle.calculus.specs.Text.{Text}
 use Rattle.machine_model.specs.State.{State, due}
@@ -18,23 +18,23 @@ use Rattle.machine_model.specs.Run.{Turn, turned, halted, or_stop, unless_stoppe
 use Rattle.machine_model.specs.Laws.{Rests}
 use Rattle.machine_model.proofs.Settles.{settled_rest, due_fills_vacant, due_returns_not}
 
-rests_by : (code : Text) (s : State) (d : Due) (fs : List Frame) → due code s ≡ d → s.frames ≡ fs → slack s ≡ 0 → silent d ≡ false
-rests_by code s (Fill v) fs h p e = absurd (omega (arith, due_fills_vacant code s v h))
-rests_by code s Return [] h p e = absurd (due_returns_not code s p h)
-rests_by code s Return (f ∷ fs) h p e = absurd (omega (arith, ap length p))
-rests_by code s (Done v) fs h p e = refl
-rests_by code s Astray fs h p e = refl
-rests_by code s (Reduce r) fs h p e = refl
+rests_by : (code : Text) (s : State) (d : Result Due Fault) (fs : List Frame) → due code s ≡ d → s.frames ≡ fs → slack s ≡ 0 → silent d ≡ false
+rests_by code s (Ok (Fill v)) fs h p e = absurd (omega (arith, due_fills_vacant code s v h))
+rests_by code s (Ok Return) [] h p e = absurd (due_returns_not code s p h)
+rests_by code s (Ok Return) (f ∷ fs) h p e = absurd (omega (arith, ap length p))
+rests_by code s (Ok (Done v)) fs h p e = refl
+rests_by code s (Err x) fs h p e = refl
+rests_by code s (Ok (Reduce r)) fs h p e = refl
 
-settles_by : (k : ℕ) (code : Text) (s : State) → ((t : State) → slack t ≡ k → silent (due code (settled_for k code t)) ≡ false) → (d : Due) (fs : List Frame) → due code s ≡ d → s.frames ≡ fs → slack s ≡ suc k → silent (due code (on_due d s (settled_for k code))) ≡ false
-settles_by k code s go (Fill v) fs h p e = go (filled s v) (omega (arith, due_fills_vacant code s v h))
-settles_by k code s go Return [] h p e = absurd (due_returns_not code s p h)
-settles_by k code s go Return (f ∷ fs) h p e =
+settles_by : (k : ℕ) (code : Text) (s : State) → ((t : State) → slack t ≡ k → silent (due code (settled_for k code t)) ≡ false) → (d : Result Due Fault) (fs : List Frame) → due code s ≡ d → s.frames ≡ fs → slack s ≡ suc k → silent (due code (on_due d s (settled_for k code))) ≡ false
+settles_by k code s go (Ok (Fill v)) fs h p e = go (filled s v) (omega (arith, due_fills_vacant code s v h))
+settles_by k code s go (Ok Return) [] h p e = absurd (due_returns_not code s p h)
+settles_by k code s go (Ok Return) (f ∷ fs) h p e =
     let l : length s.frames ≡ suc (length fs) = ap length p in
     go (returned_to s s.frames) (ap (λ xs. slack (returned_to s xs)) p ∙ omega arith)
-settles_by k code s go (Done v) fs h p e = ap silent h
-settles_by k code s go Astray fs h p e = ap silent h
-settles_by k code s go (Reduce r) fs h p e = ap silent h
+settles_by k code s go (Ok (Done v)) fs h p e = ap silent h
+settles_by k code s go (Err x) fs h p e = ap silent h
+settles_by k code s go (Ok (Reduce r)) fs h p e = ap silent h
 
 -- enough transitions for the slack bring a state to rest
 settles : (k : ℕ) (code : Text) (s : State) → slack s ≡ k → silent (due code (settled_for k code s)) ≡ false
@@ -68,12 +68,12 @@ stopped_never (Err c) s m go no-o h e = no-o (ap Err (err_in e))
     err_in : {A : Type 0} {a b : Stop} → ◌≡◌ {A = Result A Stop} (Err a) (Err b) → a ≡ b
     err_in q = cc
 
-rest_never : (d : Due) → rest d ≡ Err stop.Paused → ⊥
-rest_never (Fill v) e = let z : ◌≡◌ {A = ℕ} 0 1 = cc in omega arith
-rest_never Return e = let z : ◌≡◌ {A = ℕ} 0 1 = cc in omega arith
-rest_never (Done v) e = let z : ◌≡◌ {A = ℕ} 0 1 = cc in omega arith
-rest_never Astray e = let z : ◌≡◌ {A = ℕ} 0 1 = cc in omega arith
-rest_never (Reduce r) e = let z : ◌≡◌ {A = ℕ} 0 1 = cc in omega arith
+rest_never : (d : Result Due Fault) → rest d ≡ Err stop.Paused → ⊥
+rest_never (Ok (Fill v)) e = let z : ◌≡◌ {A = ℕ} 0 1 = cc in omega arith
+rest_never (Ok Return) e = let z : ◌≡◌ {A = ℕ} 0 1 = cc in omega arith
+rest_never (Ok (Done v)) e = let z : ◌≡◌ {A = ℕ} 0 1 = cc in omega arith
+rest_never (Err x) e = let z : ◌≡◌ {A = ℕ} 0 1 = cc in omega arith
+rest_never (Ok (Reduce r)) e = let z : ◌≡◌ {A = ℕ} 0 1 = cc in omega arith
 
 or_stop_never : {X : Type 0} (o : Result X Fault) → or_stop o ≡ Err stop.Paused → ⊥
 or_stop_never (Ok x) e = let z : ◌≡◌ {A = ℕ} 0 1 = cc in omega arith

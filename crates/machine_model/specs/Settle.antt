@@ -2,6 +2,7 @@
 use Rattle.std.specs.Prelude.{ℕ, zero, suc, ◌+◌, ◌*◌, ◌^◌, ◌<◌, Bool, true, false, ◌&&◌, List, [], ◌∷◌, length, Some, None, Ok, Err, Option, Result, nat_lt}
 use Rattle.calculus.specs.Text.{Text}
 use Rattle.calculus.specs.declared.values.Value.{Value}
+use Rattle.machine_model.specs.declared.answers.Fault.{Fault}
 use Rattle.machine_model.specs.declared.answers.Fault.TheVariants as fault
 use Rattle.machine_model.specs.declared.answers.Stop.{Stop}
 use Rattle.machine_model.specs.declared.answers.Stop.TheVariants as stop
@@ -10,7 +11,7 @@ use Rattle.machine_model.specs.declared.state.Report.{Report}
 use Rattle.machine_model.specs.declared.state.Registers.{Registers}
 use Rattle.machine_model.specs.declared.steps.Redex.{Redex}
 use Rattle.machine_model.specs.declared.steps.Due.{Due}
-use Rattle.machine_model.specs.declared.steps.Due.TheVariants.{Fill, Return, Done, Astray, Reduce}
+use Rattle.machine_model.specs.declared.steps.Due.TheVariants.{Fill, Return, Done, Reduce}
 use Rattle.machine_model.specs.State.{State, due}
 
 -- one transition more
@@ -45,19 +46,19 @@ abbrev pub slack : State → ℕ
 slack s = length s.frames + vacant s.registers.accumulator
 
 -- whether a silent transition is due
-abbrev pub silent : Due → Bool
-silent (Fill v) = true
-silent Return = true
-silent (Done v) = false
-silent Astray = false
-silent (Reduce r) = false
+abbrev pub silent : Result Due Fault → Bool
+silent (Ok (Fill v)) = true
+silent (Ok Return) = true
+silent (Ok (Done v)) = false
+silent (Ok (Reduce r)) = false
+silent (Err x) = false
 
-abbrev pub on_due : Due → State → (State → State) → State
-on_due (Fill v) s go = go (filled s v)
-on_due Return s go = go (returned_to s s.frames)
-on_due (Done v) s go = s
-on_due Astray s go = s
-on_due (Reduce r) s go = s
+abbrev pub on_due : Result Due Fault → State → (State → State) → State
+on_due (Ok (Fill v)) s go = go (filled s v)
+on_due (Ok Return) s go = go (returned_to s s.frames)
+on_due (Ok (Done v)) s go = s
+on_due (Ok (Reduce r)) s go = s
+on_due (Err x) s go = s
 
 unfoldable pub settled_for : ℕ → Text → State → State
 settled_for zero code s = s
@@ -68,12 +69,12 @@ abbrev pub settled : Text → State → State
 settled code s = settled_for (slack s) code s
 
 -- what stands there then
-abbrev pub rest : Due → Result Redex Stop
-rest (Fill v) = Err (stop.Refused fault.Astray)
-rest Return = Err (stop.Refused fault.Astray)
-rest (Done v) = Err (stop.Done v)
-rest Astray = Err (stop.Refused fault.Astray)
-rest (Reduce r) = Ok r
+abbrev pub rest : Result Due Fault → Result Redex Stop
+rest (Ok (Fill v)) = Err (stop.Refused fault.Astray)
+rest (Ok Return) = Err (stop.Refused fault.Astray)
+rest (Ok (Done v)) = Err (stop.Done v)
+rest (Ok (Reduce r)) = Ok r
+rest (Err x) = Err (stop.Refused x)
 
 -- all reductions of a report
 abbrev pub reductions : Report → ℕ

@@ -10,7 +10,7 @@ pub struct Cell {
 }
 
 /// Where a list goes on, and over which environment.
-#[derive(Clone, Copy, PartialEq, Eq, Debug)]
+#[derive(Clone, Copy, PartialEq, Eq, Debug, Default)]
 pub struct Frame {
     pub list: u32,
     /// The next operation, counted from 0 in its list.
@@ -19,7 +19,7 @@ pub struct Frame {
 }
 
 /// The transitions, and the reductions by kind, since the start of a program.
-#[derive(Clone, Copy, PartialEq, Eq, Debug)]
+#[derive(Clone, Copy, PartialEq, Eq, Debug, Default)]
 pub struct Report {
     pub transitions: u64,
     pub objects: u32,
@@ -30,16 +30,17 @@ pub struct Report {
 }
 
 /// What has become of the program last started.
-#[derive(Clone, Copy, PartialEq, Eq, Debug)]
+#[derive(Clone, Copy, PartialEq, Eq, Debug, Default)]
 pub enum Progress {
     /// None was started yet.
+    #[default]
     Unused,
     Running,
     Ended,
 }
 
 /// The registers.
-#[derive(Clone, Copy)]
+#[derive(Clone, Copy, Default)]
 pub struct Registers {
     pub at: Frame,
     /// Empty, or the value that the next operation is about.

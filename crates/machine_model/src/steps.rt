@@ -1,17 +1,6 @@
 //! What a run comes upon, before it does anything about it.
-use calculus::code::Operation;
 use calculus::values::Value;
 use store::closures::Closure;
-
-/// What stands at a place of a list.
-#[derive(Clone, Copy)]
-pub enum Fetched {
-    Found(Operation),
-    /// The list is at its end.
-    Ended,
-    /// No list has this number, or none of its operations stands there.
-    Outside,
-}
 
 /// What the operation at hand makes with the accumulator: a reduction that is not made yet.
 #[derive(Clone, Copy)]
@@ -47,8 +36,6 @@ pub enum Due {
     Return,
     /// The last list is at its end, with this value.
     Done(Value),
-    /// The areas do not belong together here.
-    Astray,
     Reduce(Redex),
 }
 

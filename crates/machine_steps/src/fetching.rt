@@ -8,34 +8,36 @@ use calculus::code::{Code, ListEntry, Operation};
 use calculus::lookup::entry_at;
 use calculus::stack::Stack;
 use calculus::values::Value;
+use machine_model::answers::Fault;
 use machine_model::state::Cell;
-use machine_model::steps::{Due, Fetched, Redex};
+use machine_model::steps::{Due, Redex};
 
-/// The operation at a place of a list.
-pub(crate) fn fetch(code: &Code<'_>, list: u32, next: u32) -> Fetched
+/// The operation at a place of a list, and none where the list is at its end.
+pub(crate) fn fetch(code: &Code<'_>, list: u32, next: u32) -> Result<Option<Operation>, Fault>
     ensures is { result ≡ fetched (text_of code.now) list next }
     ensures short { is_found result ≡ true → next + 1 < 2 ^ 32 }
 {
-    match entry_at(code.contents, list as usize) {
-        None => Fetched::Outside,
-        Some(entry) => fetch_from(code.operations, entry, next),
-    }
+    let entry = entry_at(code.contents, list as usize).ok_or(Fault::Astray)?;
+    fetch_from(code.operations, entry, next)
 }
 
 /// The operation at a place of the list that an entry tells.
-fn fetch_from(operations: &[Operation], entry: ListEntry, next: u32) -> Fetched
+fn fetch_from(
+    operations: &[Operation],
+    entry: ListEntry,
+    next: u32,
+) -> Result<Option<Operation>, Fault>
     ensures is { result ≡ fetched_from operations.now entry next }
     ensures short { is_found result ≡ true → next + 1 < 2 ^ 32 }
 {
     if next < entry.len {
-        match entry_at(operations, entry.first as usize + next as usize) {
-            None => Fetched::Outside,
-            Some(operation) => Fetched::Found(operation),
-        }
+        let place = entry.first as usize + next as usize;
+        let operation = entry_at(operations, place).ok_or(Fault::Astray)?;
+        Ok(Some(operation))
     } else if next == entry.len {
-        Fetched::Ended
+        Ok(None)
     } else {
-        Fetched::Outside
+        Err(Fault::Astray)
     }
 }
 
@@ -43,11 +45,8 @@ fn fetch_from(operations: &[Operation], entry: ListEntry, next: u32) -> Fetched
 fn cell_at(cells: &Stack<'_, Cell>, env: u32) -> Option<Cell>
     ensures { result ≡ cell_of (laid cells.now) env }
 {
-    if env == 0 {
-        None
-    } else {
-        cells.get(env as usize - 1)
-    }
+    let place = env.checked_sub(1)?;
+    cells.get(place as usize)
 }
 
 /// Adds a cell where there is room, and answers the environment that begins with it.
@@ -66,56 +65,47 @@ pub fn add_cell(cells: &mut Stack<'_, Cell>, cell: Cell) -> u32
 pub(crate) fn look_up(cells: &Stack<'_, Cell>, env: u32, index: u32) -> Option<Value>
     ensures { result ≡ variable (laid cells.now) env index }
 {
-    if index == 0 {
-        return None;
-    }
-    let mut left = index - 1;
+    let steps = index.checked_sub(1)?;
     let mut at = env;
-    loop {
-        match cell_at(cells, at) {
-            None => return None,
-            Some(cell) => {
-                if left == 0 {
-                    return Some(cell.value);
-                }
-                left -= 1;
-                at = cell.parent;
-            }
-        }
+    for _ in 0..steps {
+        at = cell_at(cells, at)?.parent;
     }
+    let cell = cell_at(cells, at)?;
+    Some(cell.value)
 }
 
 /// What an operation makes of an empty accumulator.
-pub(crate) fn begin(cells: &Stack<'_, Cell>, env: u32, operation: Operation) -> Due
+pub(crate) fn begin(cells: &Stack<'_, Cell>, env: u32, operation: Operation) -> Result<Due, Fault>
     ensures { result ≡ begins (laid cells.now) env operation }
 {
     match operation {
-        Operation::Access(index) => match look_up(cells, env, index) {
-            Some(value) => Due::Fill(value),
-            None => Due::Astray,
-        },
-        Operation::Figure(figure) => Due::Fill(Value::Figure(figure)),
-        Operation::Object { first, count } => Due::Reduce(Redex::Object { first, count }),
-        _ => Due::Astray,
+        Operation::Access(index) => {
+            let value = look_up(cells, env, index).ok_or(Fault::Astray)?;
+            Ok(Due::Fill(value))
+        }
+        Operation::Figure(figure) => Ok(Due::Fill(Value::Figure(figure))),
+        Operation::Object { first, count } => Ok(Due::Reduce(Redex::Object { first, count })),
+        _ => Err(Fault::Astray),
     }
 }
 
 /// What an operation makes of a value.
-pub(crate) fn go_on(value: Value, operation: Operation) -> Due
+pub(crate) fn go_on(value: Value, operation: Operation) -> Result<Due, Fault>
     ensures { result ≡ goes_on value operation }
 {
-    match operation {
-        Operation::Select(label) => Due::Reduce(Redex::Select {
+    let redex = match operation {
+        Operation::Select(label) => Redex::Select {
             receiver: value,
             label,
-        }),
-        Operation::Update(label, list) => Due::Reduce(Redex::Update {
+        },
+        Operation::Update(label, list) => Redex::Update {
             receiver: value,
             label,
             list,
-        }),
-        Operation::Clone => Due::Reduce(Redex::Clone { receiver: value }),
-        Operation::Let(list) => Due::Reduce(Redex::Let { value, list }),
-        _ => Due::Astray,
-    }
+        },
+        Operation::Clone => Redex::Clone { receiver: value },
+        Operation::Let(list) => Redex::Let { value, list },
+        _ => return Err(Fault::Astray),
+    };
+    Ok(Due::Reduce(redex))
 }

@@ -7,3 +7,4 @@ pub mod deciding;
 pub mod fetching;
 pub mod reducing;
 pub mod settling;
+pub mod state;

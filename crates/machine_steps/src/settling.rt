@@ -6,71 +6,55 @@ ghost use Rattle.machine_model.specs.Settle.{settled, rest, Sound};
 ghost use Rattle.machine_steps.specs.Parts.{state_at};
 
 use crate::fetching::{begin, fetch, go_on};
+use crate::state::State;
 use calculus::code::Code;
-use calculus::stack::Stack;
 use machine_model::answers::{Fault, Stop};
-use machine_model::state::{Cell, Frame, Registers};
-use machine_model::steps::{Due, Fetched, Redex};
+use machine_model::steps::{Due, Redex};
 
-/// What is next.
-fn next(
-    registers: &Registers,
-    cells: &Stack<'_, Cell>,
-    frames: &Stack<'_, Frame>,
-    code: &Code<'_>,
-) -> Due
-    ensures is { result ≡ due (text_of code.now) (state_at registers.now cells.now frames.now) }
-    ensures short { reads result ≡ true → registers.now.at.next + 1 < 2 ^ 32 }
-{
-    let at = registers.at;
-    match fetch(code, at.list, at.next) {
-        Fetched::Found(operation) => match registers.accumulator {
-            None => begin(cells, at.env, operation),
-            Some(value) => go_on(value, operation),
-        },
-        Fetched::Ended => match registers.accumulator {
-            None => Due::Astray,
-            Some(value) => {
-                if frames.len() == 0 {
-                    Due::Done(value)
-                } else {
-                    Due::Return
-                }
-            }
-        },
-        Fetched::Outside => Due::Astray,
-    }
-}
-
-/// Makes every silent transition that is due.
-pub fn settle(
-    registers: &mut Registers,
-    cells: &Stack<'_, Cell>,
-    frames: &mut Stack<'_, Frame>,
-    code: &Code<'_>,
-) -> Result<Redex, Stop>
-    requires { Sound (state_at registers.old cells.now frames.old) }
-    ensures answer { result ≡ rest (due (text_of code.now) (settled (text_of code.now) (state_at registers.old cells.now frames.old))) }
-    ensures state { state_at registers.new cells.now frames.new ≡ settled (text_of code.now) (state_at registers.old cells.now frames.old) }
-    ensures short { OnOk result (registers.new.at.next + 1 < 2 ^ 32) }
-{
-    loop {
-        match next(registers, cells, frames, code) {
-            Due::Fill(value) => {
-                registers.at.next += 1;
-                registers.accumulator = Some(value);
-                registers.report.transitions += 1;
-            }
-            Due::Return => match frames.pop() {
-                Some(frame) => {
-                    registers.at = frame;
-                    registers.report.transitions += 1;
-                }
-                None => return Err(Stop::Refused(Fault::Astray)),
+impl<'a> State<'a> {
+    /// What is next.
+    fn next(&self, code: &Code<'_>) -> Result<Due, Fault>
+        ensures is { result ≡ due (text_of code.now) (state_at self.now) }
+        ensures short { reads result ≡ true → self.now.registers.at.next + 1 < 2 ^ 32 }
+    {
+        let at = self.registers.at;
+        match fetch(code, at.list, at.next)? {
+            Some(operation) => match self.registers.accumulator {
+                None => begin(&self.cells, at.env, operation),
+                Some(value) => go_on(value, operation),
             },
-            Due::Done(value) => return Err(Stop::Done(value)),
-            Due::Astray => return Err(Stop::Refused(Fault::Astray)),
-            Due::Reduce(redex) => return Ok(redex),
+            None => {
+                let value = self.registers.accumulator.ok_or(Fault::Astray)?;
+                if self.frames.len() == 0 {
+                    Ok(Due::Done(value))
+                } else {
+                    Ok(Due::Return)
+                }
+            }
+        }
+    }
+
+    /// Makes every silent transition that is due.
+    pub fn settle(&mut self, code: &Code<'_>) -> Result<Redex, Stop>
+        requires { Sound (state_at self.old) }
+        ensures answer { result ≡ rest (due (text_of code.now) (settled (text_of code.now) (state_at self.old))) }
+        ensures state { state_at self.new ≡ settled (text_of code.now) (state_at self.old) }
+        ensures short { OnOk result (self.new.registers.at.next + 1 < 2 ^ 32) }
+    {
+        loop {
+            match self.next(code)? {
+                Due::Fill(value) => {
+                    self.registers.at.next += 1;
+                    self.registers.accumulator = Some(value);
+                    self.registers.report.transitions += 1;
+                }
+                Due::Return => {
+                    self.registers.at = self.frames.pop().ok_or(Fault::Astray)?;
+                    self.registers.report.transitions += 1;
+                }
+                Due::Done(value) => return Err(Stop::Done(value)),
+                Due::Reduce(redex) => return Ok(redex),
+            }
         }
     }
 }

@@ -15,11 +15,11 @@ use Rattle.session.specs.declared.session.Session.{Session}
 module _ {S : Type 0} (meaning : S → Meaning) where
   -- the used parts of its code area and the room there, its machine, and what its store means
   abbrev pub held_by : Session S → laws.Session
-  held_by s = session_over s.tables s.counts (state_of s.machine) (meaning s.store)
+  held_by s = session_over s.area.tables s.area.counts (state_of s.machine) (meaning s.store)
 
   -- no count is past its table: so it is at the beginning, and every call keeps it so
   abbrev pub Whole : Session S → Type 0
-  Whole s = within s.counts (rooms s.tables) ≡ true
+  Whole s = within s.area.counts (rooms s.area.tables) ≡ true
 
   -- One call, from a whole session: its answer is the definition's, it leaves what the definition says, whole again; and for every state of the
   -- reference that the session agrees with, the call is answered as the reference answers it, and leaves a session that agrees again.

@@ -9,7 +9,7 @@ ghost use Rattle.reference.specs.Calls as call;
 ghost use Rattle.session.specs.Steps.{Whole, Step};
 
 use crate::session::Session;
-use calculus::code::{Counts, Tables};
+use calculus::code::{CodeArea, Tables};
 use calculus::refusals::Refusal;
 use calculus::rows::Row;
 use calculus::values::Value;
@@ -31,12 +31,7 @@ impl<'a, S: Store> Session<'a, S> {
         ensures machine { state_of result.machine ≡ unused (counted (length cells.old)) (counted (length frames.old)) }
     {
         Session {
-            tables,
-            counts: Counts {
-                contents: 0,
-                operations: 0,
-                methods: 0,
-            },
+            area: CodeArea::new(tables),
             machine: Machine::new(cells, frames),
             store,
         }
@@ -44,46 +39,37 @@ impl<'a, S: Store> Session<'a, S> {
 
     /// Compiles the rows of a term with this many givens: the program's number.
     pub fn compile(&mut self, rows: &[Row], givens: u32) -> Result<u32, Refusal>
-        ensures answer { result ≡ answer rows.now givens self.old.tables self.old.counts }
+        ensures answer { result ≡ answer rows.now givens self.old.area.tables self.old.area.counts }
         ensures leaves { MatchResult result
-            (λ n. Compiled rows.now givens n self.old.tables self.old.counts self.new.tables self.new.counts)
-            (λ _. Untouched self.old.tables self.old.counts self.new.tables self.new.counts) }
+            (λ n. Compiled rows.now givens n self.old.area.tables self.old.area.counts self.new.area.tables self.new.area.counts)
+            (λ _. Untouched self.old.area.tables self.old.area.counts self.new.area.tables self.new.area.counts) }
         ensures machine { state_of self.new.machine ≡ state_of self.old.machine }
         ensures store { S.meaning self.new.store ≡ S.meaning self.old.store }
         ensures step { Whole S.Store.meaning self.old → Step S.Store.meaning (call.compile rows.now givens) self.old result self.new }
     {
-        compile(rows, givens, &mut self.tables, &mut self.counts)
+        compile(rows, givens, &mut self.area)
     }
 
     /// Starts a program with its givens and an allowance of reductions.
     pub fn start(&mut self, program: u32, givens: &[Value], allowance: u32) -> Result<(), Refusal>
-        ensures answer { result ≡ start_answer self.old.tables self.old.counts (state_of self.old.machine) (S.meaning self.old.store) program givens.now }
-        ensures state { state_of self.new.machine ≡ start_state self.old.tables self.old.counts (state_of self.old.machine) (S.meaning self.old.store) program givens.now allowance }
-        ensures tables { self.new.tables ≡ self.old.tables }
-        ensures counts { self.new.counts ≡ self.old.counts }
+        ensures answer { result ≡ start_answer self.old.area.tables self.old.area.counts (state_of self.old.machine) (S.meaning self.old.store) program givens.now }
+        ensures state { state_of self.new.machine ≡ start_state self.old.area.tables self.old.area.counts (state_of self.old.machine) (S.meaning self.old.store) program givens.now allowance }
+        ensures area { self.new.area ≡ self.old.area }
         ensures store { S.meaning self.new.store ≡ S.meaning self.old.store }
         ensures step { Whole S.Store.meaning self.old → Step S.Store.meaning (call.start program givens.now allowance) self.old result self.new }
     {
-        self.machine.start(
-            &self.tables,
-            self.counts,
-            &self.store,
-            program,
-            givens,
-            allowance,
-        )
+        self.machine
+            .start(&self.area, &self.store, program, givens, allowance)
     }
 
     /// Runs the program for at most `n` reductions.
     pub fn run(&mut self, n: u32) -> RunAnswer
-        ensures answer { result ≡ (run_outcome n self.old.tables self.old.counts (state_of self.old.machine) (S.meaning self.old.store)).answer }
-        ensures state { state_of self.new.machine ≡ (run_outcome n self.old.tables self.old.counts (state_of self.old.machine) (S.meaning self.old.store)).state }
-        ensures store { S.meaning self.new.store ≡ (run_outcome n self.old.tables self.old.counts (state_of self.old.machine) (S.meaning self.old.store)).store }
-        ensures tables { self.new.tables ≡ self.old.tables }
-        ensures counts { self.new.counts ≡ self.old.counts }
+        ensures answer { result ≡ (run_outcome n self.old.area.tables self.old.area.counts (state_of self.old.machine) (S.meaning self.old.store)).answer }
+        ensures state { state_of self.new.machine ≡ (run_outcome n self.old.area.tables self.old.area.counts (state_of self.old.machine) (S.meaning self.old.store)).state }
+        ensures store { S.meaning self.new.store ≡ (run_outcome n self.old.area.tables self.old.area.counts (state_of self.old.machine) (S.meaning self.old.store)).store }
+        ensures area { self.new.area ≡ self.old.area }
         ensures step { Whole S.Store.meaning self.old → Step S.Store.meaning (call.run n) self.old result self.new }
     {
-        self.machine
-            .run(&self.tables, self.counts, &mut self.store, n)
+        self.machine.run(&self.area, &mut self.store, n)
     }
 }

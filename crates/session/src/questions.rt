@@ -7,7 +7,6 @@ ghost use Rattle.machine.specs.Machine.{state_of};
 ghost use Rattle.store.specs.Meaning.{size_of, method_at};
 
 use crate::session::Session;
-use calculus::area::used_of;
 use calculus::code::Code;
 use calculus::refusals::Refusal;
 use calculus::rows::Row;
@@ -26,17 +25,17 @@ impl<'a, S: Store> Session<'a, S> {
         area: &mut [Row],
         stack: &mut [Pending],
     ) -> Result<u32, Refusal>
-        ensures answer { Some (told result (λ n. take n area.new)) ≡ answer self.now.tables self.now.counts (lent_rooms area.old stack.old) program }
+        ensures answer { Some (told result (λ n. take n area.new)) ≡ answer self.now.area.tables self.now.area.counts (lent_rooms area.old stack.old) program }
         ensures kept { IfOk result (λ n. (n ≤ length area.new) × (drop n area.new ≡ drop n area.old)) }
     {
-        list_back(program, &self.tables, self.counts, area, stack)
+        list_back(program, &self.area.tables, self.area.counts, area, stack)
     }
 
     /// The used parts of the code area.
     pub fn code(&self) -> Option<Code<'_>>
-        ensures { MatchOption result (within self.now.counts (rooms self.now.tables) ≡ false) (λ c. (within self.now.counts (rooms self.now.tables) ≡ true) × (text_of c ≡ used self.now.tables self.now.counts)) }
+        ensures { MatchOption result (within self.now.area.counts (rooms self.now.area.tables) ≡ false) (λ c. (within self.now.area.counts (rooms self.now.area.tables) ≡ true) × (text_of c ≡ used self.now.area.tables self.now.area.counts)) }
     {
-        used_of(&self.tables, self.counts)
+        self.area.used()
     }
 
     /// How many objects there are.
@@ -64,6 +63,6 @@ impl<'a, S: Store> Session<'a, S> {
     pub fn cell(&self, place: usize) -> Option<Cell>
         ensures { result ≡ slice_get (state_of self.now.machine).cells place }
     {
-        self.machine.cells.get(place)
+        self.machine.state.cells.get(place)
     }
 }

@@ -18,8 +18,7 @@ impl<'a, S: Store> Session<'a, TrialLayer<S>> {
         ensures answer { result ≡ open_result (layer_meaning S.Store.meaning self.old.store).trial }
         ensures store { layer_meaning S.Store.meaning self.new.store ≡ opening (layer_meaning S.Store.meaning self.old.store) }
         ensures machine { state_of self.new.machine ≡ state_of self.old.machine }
-        ensures tables { self.new.tables ≡ self.old.tables }
-        ensures counts { self.new.counts ≡ self.old.counts }
+        ensures area { self.new.area ≡ self.old.area }
         ensures step { Whole (layer_meaning S.Store.meaning) self.old → Step (layer_meaning S.Store.meaning) call.open_trial self.old result self.new }
     {
         self.store.open()
@@ -30,8 +29,7 @@ impl<'a, S: Store> Session<'a, TrialLayer<S>> {
         ensures answer { result ≡ keep_result (layer_meaning S.Store.meaning self.old.store).trial token.number }
         ensures store { layer_meaning S.Store.meaning self.new.store ≡ kept (layer_meaning S.Store.meaning self.old.store) token.number }
         ensures machine { state_of self.new.machine ≡ state_of self.old.machine }
-        ensures tables { self.new.tables ≡ self.old.tables }
-        ensures counts { self.new.counts ≡ self.old.counts }
+        ensures area { self.new.area ≡ self.old.area }
         ensures step { Whole (layer_meaning S.Store.meaning) self.old → Step (layer_meaning S.Store.meaning) (call.keep token.number) self.old result self.new }
     {
         self.store.keep(token)
@@ -42,8 +40,7 @@ impl<'a, S: Store> Session<'a, TrialLayer<S>> {
         ensures answer { result ≡ back_result (layer_meaning S.Store.meaning self.old.store).trial token }
         ensures store { layer_meaning S.Store.meaning self.new.store ≡ put_back (layer_meaning S.Store.meaning self.old.store) token.number }
         ensures machine { state_of self.new.machine ≡ state_of self.old.machine }
-        ensures tables { self.new.tables ≡ self.old.tables }
-        ensures counts { self.new.counts ≡ self.old.counts }
+        ensures area { self.new.area ≡ self.old.area }
         ensures step { Whole (layer_meaning S.Store.meaning) self.old → Step (layer_meaning S.Store.meaning) (call.put_back token.number) self.old result self.new }
     {
         self.store.put_back(token)

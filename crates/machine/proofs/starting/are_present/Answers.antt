@@ -1,12 +1,8 @@
-use Rattle.std.proofs.Common.{arith}
-use Rattle.machine.proofs.Givens.{missing, one_present, every_present}
+use Rattle.std.proofs.Common.{pos, refl, rules}
+use Rattle.std.proofs.lemmas.List.Recursion.{and_is}
+use Rattle.calculus.specs.declared.values.Value.TheVariants.{Figure}
+use Rattle.machine_model.specs.Start.{present, all_present}
 use Rattle.machine.proofs.starting.are_present.Goals as goal
 
-pub returns-then-not-is_present : goal.returns-then-not-is_present
-returns-then-not-is_present c = missing c.args.objects c.args.givens.now c.loop-value.value-index _ c.loop-value.invariant (omega arith) c.if-not-is_present.ensures
-
-pub loop-value-preserved : goal.loop-value-preserved
-loop-value-preserved c = one_present c.args.objects c.args.givens.now c.loop-value.value-index _ c.loop-value.invariant (omega arith) c.if-not-is_present.ensures
-
 pub returns : goal.returns
-returns c = every_present c.args.objects c.args.givens.now c.loop-value.value-index c.loop-value.invariant (omega arith)
+returns c = and_is (all_present c.args.objects) (present c.args.objects) refl (λ _ _. refl) c.args.givens.now (Figure (pos 0)) _ (search rules) (search rules)

@@ -1,22 +1,16 @@
-use Rattle.std.proofs.Common.{ap, ◌∙◌, arith}
+use Rattle.std.proofs.Common.{ap, ◌∙◌}
 use Rattle.calculus.specs.Text.{text_of}
-use Rattle.machine_model.proofs.Runs.{one_left, goes_on, stops_there}
+use Rattle.machine_model.proofs.Runs.{goes_on, stops_there}
 use Rattle.machine_model.proofs.Counting.{turn_sound}
-use Rattle.machine_steps.specs.Parts.{state_at}
+use Rattle.machine.specs.Machine.{state_of}
 use Rattle.machine.proofs.machine.Machine.work.Goals as goal
-
-pub overflow_sub-left : goal.overflow_sub-left
-overflow_sub-left g c = omega (arith, one_left (text_of c.args.code.now) (state_at c.loop-left.registers c.loop-left.self.cells c.loop-left.self.frames) (g.S.Store.meaning c.loop-left.store) c.loop-left.left (state_at c.turn.new.registers c.turn.new.cells c.turn.new.frames) (g.S.Store.meaning c.turn.new.store) c.in-Ok.ensures)
-
-pub loop-left-smaller : goal.loop-left-smaller
-loop-left-smaller g c = omega (arith, one_left (text_of c.args.code.now) (state_at c.loop-left.registers c.loop-left.self.cells c.loop-left.self.frames) (g.S.Store.meaning c.loop-left.store) c.loop-left.left (state_at c.turn.new.registers c.turn.new.cells c.turn.new.frames) (g.S.Store.meaning c.turn.new.store) c.in-Ok.ensures)
 
 pub loop-left-preserved : goal.loop-left-preserved
 loop-left-preserved g c = (
-  goes_on (text_of c.args.code.now) (state_at c.loop-left.registers c.loop-left.self.cells c.loop-left.self.frames) (g.S.Store.meaning c.loop-left.store) c.loop-left.left (state_at c.turn.new.registers c.turn.new.cells c.turn.new.frames) (g.S.Store.meaning c.turn.new.store) c.in-Ok.ensures ∙ c.loop-left.invariant.0,
-  turn_sound c.loop-left.left (text_of c.args.code.now) (state_at c.loop-left.registers c.loop-left.self.cells c.loop-left.self.frames) (g.S.Store.meaning c.loop-left.store) (state_at c.turn.new.registers c.turn.new.cells c.turn.new.frames) (ap (λ t. t.state) c.in-Ok.ensures) c.loop-left.invariant.1,
+  goes_on (text_of c.args.code.now) (state_of c.loop-left.self) (g.S.Store.meaning c.loop-left.store) c.loop-left.left (state_of c.turn.new.self) (g.S.Store.meaning c.turn.new.store) c.in_default.ensures ∙ c.loop-left.invariant.0,
+  turn_sound c.loop-left.left (text_of c.args.code.now) (state_of c.loop-left.self) (g.S.Store.meaning c.loop-left.store) (state_of c.turn.new.self) (ap (λ t. t.state) c.in_default.ensures) c.loop-left.invariant.1,
 )
 
 pub returns-in-Err : goal.returns-in-Err
 returns-in-Err g c =
-    stops_there (text_of c.args.code.now) (state_at c.loop-left.registers c.loop-left.self.cells c.loop-left.self.frames) (g.S.Store.meaning c.loop-left.store) c.loop-left.left (state_at c.turn.new.registers c.turn.new.cells c.turn.new.frames) (g.S.Store.meaning c.turn.new.store) c.in-Err.stop c.in-Err.ensures ∙ c.loop-left.invariant.0
+    stops_there (text_of c.args.code.now) (state_of c.loop-left.self) (g.S.Store.meaning c.loop-left.store) c.loop-left.left (state_of c.turn.new.self) (g.S.Store.meaning c.turn.new.store) c.in-Err.stop c.in-Err.ensures ∙ c.loop-left.invariant.0

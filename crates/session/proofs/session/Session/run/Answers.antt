@@ -1,24 +1,10 @@
-use Rattle.std.proofs.Common.{refl, ◌∙◌, rules}
-use Rattle.machine.specs.Machine.{state_of}
+use Rattle.std.proofs.Common.{refl, ◌∙◌}
 use Rattle.reference.specs.Calls as call
-use Rattle.session_laws.proofs.Leaving.{areas_are_sessions}
-use Rattle.session.proofs.Stepping.{stepped, over_same}
+use Rattle.session.proofs.Stepping.{defined, steps}
 use Rattle.session.proofs.session.Session.run.Goals as goal
 
-pub returns : goal.returns
-returns g c =
-    record {
-      answer = search rules;
-      state = search rules;
-      store = search rules;
-      tables = search rules;
-      counts = search rules;
-      step =
-          λ w.
-          let o = areas_are_sessions c.args.self.now.tables c.args.self.now.counts (state_of c.args.self.now.machine) (g.S.Store.meaning c.args.self.now.store) w in
-          stepped g.S.Store.meaning (call.run c.args.n) c.args.self.now _ c.run.result _
-          (c.run.ensures.answer ∙ o.run_answers c.args.n)
-          (o.run_leaves c.args.n)
-          (over_same c.args.self.now.tables c.args.self.now.tables c.args.self.now.counts c.args.self.now.counts _ _ _ _ refl refl c.run.ensures.state c.run.ensures.store)
-          w;
-    }
+pub returns-clause-step : goal.returns-clause-step
+returns-clause-step g c =
+    λ w.
+    let o = defined g.S.Store.meaning c.args.self.now w in
+    steps g.S.Store.meaning c.args.self.now w _ (call.run c.args.n) c.run.result _ _ (c.run.ensures.answer ∙ o.run_answers c.args.n) (o.run_leaves c.args.n) refl c.run.ensures.state c.run.ensures.store

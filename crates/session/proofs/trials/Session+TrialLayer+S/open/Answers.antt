@@ -1,25 +1,11 @@
-use Rattle.std.proofs.Common.{refl, rules}
-use Rattle.machine.specs.Machine.{state_of}
+use Rattle.std.proofs.Common.{refl}
 use Rattle.reference.specs.Calls as call
-use Rattle.session_laws.proofs.Leaving.{areas_are_sessions}
 use Rattle.trial_layer.specs.Layers.{layer_meaning}
-use Rattle.session.proofs.Stepping.{stepped, over_same}
+use Rattle.session.proofs.Stepping.{defined, steps}
 use Rattle.session.proofs.trials.Session+TrialLayer+S.open.Goals as goal
 
-pub returns : goal.returns
-returns g c =
-    record {
-      answer = search rules;
-      store = search rules;
-      machine = search rules;
-      tables = search rules;
-      counts = search rules;
-      step =
-          λ w.
-          let o = areas_are_sessions c.args.self.now.tables c.args.self.now.counts (state_of c.args.self.now.machine) (layer_meaning g.S.Store.meaning c.args.self.now.store) w in
-          stepped (layer_meaning g.S.Store.meaning) call.open_trial c.args.self.now _ c.open.result _
-          c.open.ensures.answer
-          o.open_leaves
-          (over_same c.args.self.now.tables c.args.self.now.tables c.args.self.now.counts c.args.self.now.counts _ _ _ _ refl refl refl c.open.ensures.state)
-          w;
-    }
+pub returns-clause-step : goal.returns-clause-step
+returns-clause-step g c =
+    λ w.
+    let o = defined (layer_meaning g.S.Store.meaning) c.args.self.now w in
+    steps (layer_meaning g.S.Store.meaning) c.args.self.now w _ (call.open_trial) c.open.result _ _ c.open.ensures.answer o.open_leaves refl refl c.open.ensures.state
