@@ -19,7 +19,7 @@ use session::session::Session;
 use sharing_store::entries::SharedEntry;
 use sharing_store::table::SharingStore;
 use std::io;
-use store::closures::{Closure, Method};
+use store::closures::Method;
 use store::layout::Span;
 use store::store::Store;
 use trial_layer::layer::TrialLayer;
@@ -35,16 +35,11 @@ fn drive<T: Trials<S>, S: Store + Drop>(
         value: Value::Figure(0),
         parent: 0,
     };
-    let no_frame = Frame {
-        list: 0,
-        next: 0,
-        env: 0,
-    };
     let mut contents = vec![in heap; ListEntry::default(); script.length(Area::Contents)]?;
     let mut operations = vec![in heap; Operation::Clone; script.length(Area::Operations)]?;
     let mut methods = vec![in heap; MethodEntry::default(); script.length(Area::Methods)]?;
     let mut cells = vec![in heap; no_cell; script.length(Area::Cells)]?;
-    let mut frames = vec![in heap; no_frame; script.length(Area::Frames)]?;
+    let mut frames = vec![in heap; Frame::default(); script.length(Area::Frames)]?;
     let tables = Tables {
         contents: &mut contents,
         operations: &mut operations,
@@ -75,13 +70,6 @@ fn answer_all<S: Store, T: Trials<S>>(
     Ok(())
 }
 
-fn no_method() -> Method {
-    Method {
-        label: 0,
-        closure: Closure { list: 0, env: 0 },
-    }
-}
-
 /// Runs over a store that keeps its methods flat.
 fn over_flat<R: FnOnce(&mut Script, FlatStore<'_>) -> io::Result<()>>(
     script: &mut Script,
@@ -90,8 +78,8 @@ fn over_flat<R: FnOnce(&mut Script, FlatStore<'_>) -> io::Result<()>>(
     requires { R.IsAlwaysCallable run }
 {
     let heap = script.heap();
-    let mut objects = vec![in heap; Span { first: 0, size: 0 }; script.length(Area::Objects)]?;
-    let mut slots = vec![in heap; no_method(); script.length(Area::Slots)]?;
+    let mut objects = vec![in heap; Span::default(); script.length(Area::Objects)]?;
+    let mut slots = vec![in heap; Method::default(); script.length(Area::Slots)]?;
     run(script, FlatStore::new(&mut objects, &mut slots))
 }
 
@@ -103,16 +91,8 @@ fn over_sharing<R: FnOnce(&mut Script, SharingStore<'_>) -> io::Result<()>>(
     requires { R.IsAlwaysCallable run }
 {
     let heap = script.heap();
-    let no_object = SharedEntry {
-        first: 0,
-        size: 0,
-        held: 0,
-        root: 0,
-        last: 0,
-        previous: 0,
-    };
-    let mut objects = vec![in heap; no_object; script.length(Area::Objects)]?;
-    let mut slots = vec![in heap; no_method(); script.length(Area::Slots)]?;
+    let mut objects = vec![in heap; SharedEntry::default(); script.length(Area::Objects)]?;
+    let mut slots = vec![in heap; Method::default(); script.length(Area::Slots)]?;
     run(script, SharingStore::new(&mut objects, &mut slots))
 }
 

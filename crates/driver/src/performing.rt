@@ -18,12 +18,7 @@ const PENDING_LISTS: usize = 200;
 fn list<S: Store>(script: &Script, session: &Session<'_, S>, program: u32) -> io::Result<()> {
     let heap = script.heap();
     let mut rows = vec![in heap; Row::default(); MOST_ROWS]?;
-    let no_list = Pending {
-        list: 0,
-        next: 0,
-        method: 0,
-    };
-    let mut stack = vec![in heap; no_list; PENDING_LISTS]?;
+    let mut stack = vec![in heap; Pending::default(); PENDING_LISTS]?;
     match session.list(program, &mut rows, &mut stack) {
         Ok(count) => print_rows(script, &rows, count as usize),
         Err(refusal) => script.print_refused(refusal),

@@ -3,10 +3,10 @@ use crate::reading::Script;
 use answers::answers::Answer;
 use answers::operations::{MethodText, OperationText};
 use calculus::code::{Code, ListEntry, Operation};
-use calculus::lookup::entry_at;
 use calculus::refusals::Refusal;
 use calculus::rows::Row;
 use calculus::stack::MOST_ENTRIES;
+use listing::extent::lists_end;
 use machine_model::state::Cell;
 use session::session::Session;
 use signs::write::{RowText, ValueText};
@@ -60,15 +60,11 @@ pub fn print_code<S: Store>(
     let Some(code) = session.code() else {
         return script.print_refused(Refusal::CountOutside);
     };
-    let number = program as usize;
-    match entry_at(code.contents, number) {
-        Some(entry) if entry.mark > 0 => script.print(list_line(script, &code, number, entry)?)?,
-        _ => return script.print_refused(Refusal::NoProgram),
-    }
-    for (number, entry) in code.contents.iter().enumerate().skip(number + 1) {
-        if entry.mark > 0 {
-            return Ok(());
-        }
+    let Some(end) = lists_end(program, &code) else {
+        return script.print_refused(Refusal::NoProgram);
+    };
+    let lists = code.contents.iter().enumerate().take(end);
+    for (number, entry) in lists.skip(program as usize) {
         script.print(list_line(script, &code, number, *entry)?)?;
     }
     Ok(())
@@ -76,10 +72,7 @@ pub fn print_code<S: Store>(
 
 /// The cell that an environment begins with.
 fn first_cell<S: Store>(session: &Session<'_, S>, env: u32) -> Option<Cell> {
-    if env == 0 {
-        return None;
-    }
-    session.cell(env as usize - 1)
+    session.cell((env as usize).checked_sub(1)?)
 }
 
 /// The values of an environment, the nearest first, parted by blanks.
