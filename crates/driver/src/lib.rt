@@ -70,30 +70,28 @@ fn answer_all<S: Store, T: Trials<S>>(
     Ok(())
 }
 
-/// Runs over a store that keeps its methods flat.
-fn over_flat<R: FnOnce(&mut Script, FlatStore<'_>) -> io::Result<()>>(
-    script: &mut Script,
-    run: R,
-) -> io::Result<()>
-    requires { R.IsAlwaysCallable run }
-{
-    let heap = script.heap();
-    let mut objects = vec![in heap; Span::default(); script.length(Area::Objects)]?;
-    let mut slots = vec![in heap; Method::default(); script.length(Area::Slots)]?;
-    run(script, FlatStore::new(&mut objects, &mut slots))
+/// A trial layer over this store.
+fn drive_layer<S: Store + Drop>(script: &mut Script, first: Call, below: S) -> io::Result<()> {
+    drive::<Held, _>(script, first, TrialLayer::new(below))
 }
 
-/// Runs over a store that shares methods.
-fn over_sharing<R: FnOnce(&mut Script, SharingStore<'_>) -> io::Result<()>>(
+/// Two trial layers over this store.
+fn drive_two_layers<S: Store + Drop>(script: &mut Script, first: Call, below: S) -> io::Result<()> {
+    drive_layer(script, first, TrialLayer::new(below))
+}
+
+/// Makes the areas of a store and lends them.
+fn with_areas<O: Copy + Drop, R: FnOnce(&mut Script, &mut [O], &mut [Method]) -> io::Result<()>>(
     script: &mut Script,
+    no_object: O,
     run: R,
 ) -> io::Result<()>
     requires { R.IsAlwaysCallable run }
 {
     let heap = script.heap();
-    let mut objects = vec![in heap; SharedEntry::default(); script.length(Area::Objects)]?;
+    let mut objects = vec![in heap; no_object; script.length(Area::Objects)]?;
     let mut slots = vec![in heap; Method::default(); script.length(Area::Slots)]?;
-    run(script, SharingStore::new(&mut objects, &mut slots))
+    run(script, &mut objects, &mut slots)
 }
 
 /// Reads the script on standard input and prints the answers on standard output. A bad line ends it, after a message on standard error.
@@ -102,21 +100,23 @@ pub fn run_script(rt: HostRuntime) -> io::Result<()> {
     let Some(first) = script.next_call()? else {
         return Ok(());
     };
+    let span = Span::default();
+    let shared = SharedEntry::default();
     match script.store_kind() {
-        StoreKind::Flat => over_flat(&mut script, |script, store| {
-            drive::<NoTrials, _>(script, first, store)
+        StoreKind::Flat => with_areas(&mut script, span, |script, objects, slots| {
+            drive::<NoTrials, _>(script, first, FlatStore::new(objects, slots))
         }),
-        StoreKind::TrialFlat => over_flat(&mut script, |script, store| {
-            drive::<Held, _>(script, first, TrialLayer::new(store))
+        StoreKind::TrialFlat => with_areas(&mut script, span, |script, objects, slots| {
+            drive_layer(script, first, FlatStore::new(objects, slots))
         }),
-        StoreKind::Sharing => over_sharing(&mut script, |script, store| {
-            drive::<NoTrials, _>(script, first, store)
+        StoreKind::Sharing => with_areas(&mut script, shared, |script, objects, slots| {
+            drive::<NoTrials, _>(script, first, SharingStore::new(objects, slots))
         }),
-        StoreKind::TrialSharing => over_sharing(&mut script, |script, store| {
-            drive::<Held, _>(script, first, TrialLayer::new(store))
+        StoreKind::TrialSharing => with_areas(&mut script, shared, |script, objects, slots| {
+            drive_layer(script, first, SharingStore::new(objects, slots))
         }),
-        StoreKind::TrialTrialSharing => over_sharing(&mut script, |script, store| {
-            drive::<Held, _>(script, first, TrialLayer::new(TrialLayer::new(store)))
+        StoreKind::TrialTrialSharing => with_areas(&mut script, shared, |script, objects, slots| {
+            drive_two_layers(script, first, SharingStore::new(objects, slots))
         }),
     }
 }
