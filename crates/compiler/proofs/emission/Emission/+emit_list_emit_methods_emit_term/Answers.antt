@@ -65,9 +65,6 @@ emit_methods-loop-k-preserved t c =
       subst (λ (rows : List Row). LeftAll (map plain rows) c.args.from c.args.first c.args.count c.emit_list-at.result (c.args.first + (c.loop-k.k + 1)) (c.args.count - (c.loop-k.k + 1)) (target c.args.self.now) (target c.emit_list-at.new.self)) g (left_next c.loop-k.self.rows.now c.loop-k.at (c.args.first + c.loop-k.k) (c.args.count - c.loop-k.k) (target c.loop-k.self) (omega arith) _ (c.args.first + (c.loop-k.k + 1)) (c.args.count - (c.loop-k.k + 1)) _ (omega arith) (omega arith) c.emit_list-at.ensures.wrote c.args.from c.args.first c.args.count (target c.args.self.now) c.loop-k.invariant.5),
     )
 
-pub emit_methods-returns-clause-next : goal.emit_methods-returns-clause-next
-emit_methods-returns-clause-next t c = let q = ap length (ap (λ r. r.now) c.loop-k.invariant.3) in (c.loop-k.invariant.0, omega (arith, c.loop-k.invariant.1))
-
 pub emit_methods-returns-clause-wrote : goal.emit_methods-returns-clause-wrote
 emit_methods-returns-clause-wrote t c =
     subst (λ (rows : List Row). WroteAll (map plain rows) c.args.from c.args.first c.args.count c.loop-k.at (target c.args.self.now) (target c.loop-k.self)) (ap (λ r. r.now) c.loop-k.invariant.3)
