@@ -61,7 +61,7 @@ struct Emission<'t, 'a> {
 }
 
 impl Emission<'_, '_> {
-    /// How many rows stand in front of the head row of the list that begins at `at`.
+    /// How many rows stand in front of the head row of the list that begins at `at`: those of the kinds from `Select` on.
     fn front_len(&self, at: usize) -> usize
         requires { at ≤ length self.now.rows.now }
         ensures { result ≡ front (drop at self.now.rows.now) }
@@ -121,6 +121,7 @@ impl Emission<'_, '_> {
         ensures wrote { WroteAll (source self.old) from first count result (target self.old) (target self.new) }
     {
         let mut at = from;
+        // By index, since the methods' lists go into the same tables between one entry and the next.
         for k in 0..count {
             let label = self.rows[at].label;
             self.tables.methods[(first + k) as usize] = MethodEntry {
