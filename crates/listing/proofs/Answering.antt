@@ -1,6 +1,6 @@
 -- What the answer says of a term.
 use Rattle.std.proofs.Common.{◌≡◌, ℕ, ◌<◌, ◌≤◌, Bool, true, false, cond, List, ◌++◌, map, length, take, drop, IfOk, Some, Ok, Err, Result, sym, ap, ◌∙◌, arith}
-use Rattle.std.proofs.lemmas.List.{take-append-drop}
+use Rattle.std.proofs.lemmas.List.{take-append-drop, length-take}
 use Rattle.std.proofs.lemmas.Bool.{cond-true}
 use Rattle.calculus.specs.declared.code.Tables.{Tables}
 use Rattle.calculus.specs.declared.code.Counts.{Counts}
@@ -16,26 +16,29 @@ use Rattle.calculus.specs.Layout.{compiled}
 use Rattle.calculus.specs.Standing.{Program}
 use Rattle.listing.specs.declared.pending.Pending.{Pending}
 use Rattle.listing.specs.Listing.{listed}
-use Rattle.listing.specs.Areas.{told, lent_rooms, Wrote}
+use Rattle.listing.specs.Areas.{told, lent_rooms}
 use Rattle.listing.specs.Nesting.{nesting}
 use Rattle.listing.specs.Back.{answer, Gave}
-use Rattle.listing.proofs.Rowed.{length_used}
 use Rattle.listing.proofs.Leading.{lists_back, round_trip}
 use Rattle.listing.proofs.Only.{lists_only}
 
-pub kept_of : (r : Result ℕ Refusal) (before after : List Row) → IfOk r (λ n. Wrote 0 n before after) → IfOk r (λ n. (n ≤ length after) × (drop n after ≡ drop n before))
-kept_of (Ok n) before after w = (omega (arith, w.within), w.rest)
-kept_of (Err e) before after w = tt
+-- past the rows written the area is as it was
+abbrev pub Kept : Result ℕ Refusal → List Row → List Row → Type 0
+Kept r before after = IfOk r (λ n. (n ≤ length after) × (drop n after ≡ drop n before))
 
-pub gave : (rows : List Row) (r : Result ℕ Refusal) (before after : List Row) → IfOk r (λ n. Wrote 0 n before after) → Some (told r (λ n. take n after)) ≡ Some (Ok rows) → Gave rows r before after
+pub none_kept : (r : Result ℕ Refusal) (x : Refusal) (before after : List Row) → r ≡ Err x → Kept r before after
+none_kept (Ok n) x before after e = absurd (cc)
+none_kept (Err y) x before after e = tt
+
+pub gave : (rows : List Row) (r : Result ℕ Refusal) (before after : List Row) → Kept r before after → Some (told r (λ n. take n after)) ≡ Some (Ok rows) → Gave rows r before after
 gave rows (Ok k) before after w e =
     let is : take k after ≡ rows = cc in
-    let l : k ≡ length rows = sym (length_used k after w.within) ∙ ap length is in
-    (ap Ok l, sym (take-append-drop k after) ∙ ap (λ (x : List Row). x ++ drop k after) is ∙ ap (λ (x : List Row). rows ++ x) (w.rest ∙ ap (λ (j : ℕ). drop j before) l))
-gave rows (Err x) before after w e = absurd (let z : ◌≡◌ {A = ℕ} 0 1 = cc in omega arith)
+    let l : k ≡ length rows = omega (arith, length-take k after, w.0, ap length is) in
+    (ap Ok l, sym (take-append-drop k after) ∙ ap (λ (x : List Row). x ++ drop k after) is ∙ ap (λ (x : List Row). rows ++ x) (w.1 ∙ ap (λ (j : ℕ). drop j before) l))
+gave rows (Err x) before after w e = absurd (cc)
 
 module _ (tables : Tables) (counts : Counts) (program : ℕ) (r : Result ℕ Refusal) (before after : List Row) (stack : List Pending)
-    (is : Some (told r (λ n. take n after)) ≡ answer tables counts (lent_rooms before stack) program) (wrote : IfOk r (λ n. Wrote 0 n before after)) where
+    (is : Some (told r (λ n. take n after)) ≡ answer tables counts (lent_rooms before stack) program) (wrote : Kept r before after) where
   gives : (rows : List Row) → within counts (rooms tables) ≡ true → listed (used tables counts) (lent_rooms before stack) program ≡ Some (Ok rows) → Gave rows r before after
   gives rows h e = gave rows r before after wrote (is ∙ cond-true _ _ _ h ∙ e)
 
@@ -53,7 +56,7 @@ module _ (tables : Tables) (counts : Counts) (program : ℕ) (before after : Lis
   only_term : (n : ℕ) (b : Bool) → Some (Ok (take n after)) ≡ cond b (listed (used tables counts) (lent_rooms before stack) program) (Some (Err CountOutside)) →
       (t : Term) × (g : ℕ) × Program (used tables counts) program g (trans t done) × (take n after ≡ rows_of t)
   only_term n true h = lists_only (used tables counts) (lent_rooms before stack) program (take n after) (sym h)
-  only_term n false h = absurd (let z : ◌≡◌ {A = ℕ} 0 1 = cc in omega arith)
+  only_term n false h = absurd (cc)
 
   pub gives_only : (r : Result ℕ Refusal) → Some (told r (λ n. take n after)) ≡ answer tables counts (lent_rooms before stack) program →
       IfOk r (λ n. (t : Term) × (g : ℕ) × Program (used tables counts) program g (trans t done) × (take n after ≡ rows_of t))

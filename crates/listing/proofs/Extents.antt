@@ -1,7 +1,6 @@
 -- The lists of a program.
-use Rattle.std.proofs.Common.{slice_get, ◌≡◌, ℕ, suc, ◌+◌, ◌<◌, ◌≤◌, cond, eqb, List, [], ◌∷◌, ◌++◌, length, get_or, drop, Some, None, refl, ap, ◌∙◌, add-one, arith, ne_eqb}
+use Rattle.std.proofs.Common.{slice_get, ◌≡◌, ℕ, suc, ◌+◌, cond, eqb, List, [], ◌∷◌, ◌++◌, length, drop, Some, None, refl, ap, ◌∙◌, add-one, arith, ne_eqb}
 use Rattle.std.proofs.lemmas.Bool.{cond-false}
-use Rattle.std.proofs.lemmas.List.{at_drop_more, at_drop_all}
 use Rattle.calculus.specs.declared.code.ListEntry.{ListEntry}
 use Rattle.calculus.specs.declared.code.Operation.{Operation}
 use Rattle.calculus.specs.Places.{if_some}
@@ -10,19 +9,10 @@ use Rattle.calculus.specs.Layout.{spine, lists, contents_of, compiled}
 use Rattle.layout.proofs.Lengths.{lists_length}
 use Rattle.listing.specs.Extent.{run, Extent}
 
-abbrev pub blank : ListEntry
-blank = record { first = 0; len = 0; mark = 0 }
-
-pub run_step : (es : List ListEntry) (i : ℕ) → i < length es → run (drop i es) ≡ cond (eqb (get_or es i blank).mark 0) (suc (run (drop (i + 1) es))) 0
-run_step es i h = at_drop_more run es i blank h
-
-pub run_end : (es : List ListEntry) (i : ℕ) → length es ≤ i → run (drop i es) ≡ 0
-run_end es i h = at_drop_all run es i h
-
 -- bodies, and then what comes after them
 run_bodies : (p : ℕ) (xs : List (List Operation)) (es : List ListEntry) → run es ≡ 0 → run (contents_of p xs ++ es) ≡ length xs
 run_bodies p [] es h = h
-run_bodies p (x ∷ xs) es h = ap suc (run_bodies (p + length x) xs es h)
+run_bodies p (x ∷ xs) es h = omega (arith, run_bodies (p + length x) xs es h)
 
 -- an entry after others
 found : (es : List ListEntry) (e : ListEntry) (ys zs : List ListEntry) → slice_get ((es ++ (e ∷ ys)) ++ zs) (length es) ≡ Some e

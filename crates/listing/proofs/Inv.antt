@@ -1,18 +1,23 @@
--- What holds between two turns.
-use Rattle.std.proofs.Common.{◌≡◌, ℕ, ◌+◌, ◌*◌, ◌<◌, ◌≤◌, List, length}
+-- What holds between two rows of a list, and between two turns.
+use Rattle.std.proofs.Common.{◌≡◌, ℕ, ◌+◌, ◌*◌, ◌<◌, ◌≤◌, length}
 use Rattle.calculus.specs.Held.{held, room}
-use Rattle.calculus.specs.declared.stack.Stack.{Stack}
-use Rattle.calculus.specs.declared.rows.Row.{Row}
-use Rattle.listing.specs.declared.pending.Pending.{Pending}
-use Rattle.calculus.specs.Text.{Text}
-use Rattle.listing.specs.Listing.{walked}
+use Rattle.calculus.specs.Text.{text_of}
+use Rattle.calculus.specs.declared.code.ListEntry.{ListEntry}
+use Rattle.listing.specs.declared.writing.Listing.{Listing}
+use Rattle.listing.specs.Listing.{written, walked}
 use Rattle.listing.specs.Cost.{cost}
-use Rattle.listing.specs.Areas.{row_room, rooms, state_of, Wrote}
+use Rattle.listing.specs.Areas.{row_room, rows_in, rooms, state_of, Keeps}
 
-pub record Going (T : Text) (from : ℕ) (rows₀ : List Row) (stack₀ : Stack Pending) (at : ℕ) (rows : List Row) (stack : Stack Pending) : Type 0 where
+-- the last rows of list l are written, and `left` of them are left
+pub record Writing (l : ℕ) (e : ListEntry) (before : Listing) (left : ℕ) (now : Listing) : Type 0 where
+  pub answer : written (text_of before.code) (row_room before) l e left (rows_in now) ≡ written (text_of before.code) (row_room before) l e e.len (rows_in before)
+  pub pending : now.pending.now ≡ before.pending.now
+  pub kept : Keeps before now
+
+-- some turns are taken, and so many are enough for the rest
+pub record Going (before now : Listing) : Type 0 where
   pub turns : ℕ
-  pub same : walked turns T (rooms rows₀ stack₀) (state_of at rows stack) ≡ walked (2 * row_room rows₀ + 1) T (rooms rows₀ stack₀) (state_of from rows₀ stack₀)
-  pub enough : cost T (rooms rows₀ stack₀) (state_of at rows stack) < turns
-  pub wrote : Wrote from at rows₀ rows
-  pub free : length (held stack) ≤ room stack
-  pub room_kept : room stack ≡ room stack₀
+  pub same : walked turns (text_of before.code) (rooms before) (state_of now) ≡ walked (2 * row_room before + 1) (text_of before.code) (rooms before) (state_of before)
+  pub enough : cost (text_of before.code) (rooms before) (state_of now) < turns
+  pub kept : Keeps before now
+  pub free : length (held now.pending.now) ≤ room now.pending.now

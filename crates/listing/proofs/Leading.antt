@@ -21,7 +21,7 @@ use Rattle.layout.proofs.Standing.{laid_out, program_more}
 use Rattle.listing.specs.declared.pending.Pending.{Pending}
 use Rattle.listing.specs.declared.pending.Step.{Step}
 use Rattle.listing.specs.declared.pending.Step.TheVariants as step
-use Rattle.listing.specs.Steps.{step_at, step_in, step_of, method_step, method_row}
+use Rattle.listing.specs.Steps.{astray, step_at, step_in, step_of, method_step, method_row}
 use Rattle.listing.specs.Listing.{State, Room, then, put, fresh, begun, carried, going, walked, listed_whole}
 use Rattle.listing.specs.Cost.{cost, load}
 use Rattle.listing.specs.Nesting.{nesting, nesting_all}
@@ -56,10 +56,10 @@ module _ (T : Text) (m : Room) where
 
   a_turn : (rows : List Row) (p : Pending) (ps : List Pending) (u : State) → carried T m rows p ps (step_of T p) ≡ Ok u → Leads (at rows (p ∷ ps)) u
   unfolding walked
-  a_turn rows p ps u e zero r h = absurd (let z : ◌≡◌ {A = ℕ} 0 1 = cc in omega arith)
+  a_turn rows p ps u e zero r h = absurd (cc)
   a_turn rows p ps u e (suc k) r h = (k, sym (ap (λ x. going x (walked k T m)) e) ∙ h)
 
-  pass : (l j i k : ℕ) (rows : List Row) (ps : List Pending) → k ≡ suc j → step_of T (pend l j i) ≡ step.Passed → Leads (at rows (pend l j i ∷ ps)) (at rows (pend l k i ∷ ps))
+  pass : (l j i k : ℕ) (rows : List Row) (ps : List Pending) → k ≡ suc j → step_of T (pend l j i) ≡ Ok step.Passed → Leads (at rows (pend l j i ∷ ps)) (at rows (pend l k i ∷ ps))
   pass l j i k rows ps n e =
       let q : k ≡ j + 1 = omega arith in
       a_turn rows (pend l j i) ps (at rows (pend l k i ∷ ps)) (ap (carried T m rows (pend l j i) ps) e ∙ ap (λ x. Ok (at rows (pend l x i ∷ ps))) (sym q))
@@ -70,10 +70,10 @@ module _ (T : Text) (m : Room) where
 
   module _ (l : ℕ) (e : ListEntry) (f : slice_get T.contents l ≡ Some e) where
     pub step_found : (j i : ℕ) (o : Operation) → j < e.len → slice_get T.operations (e.first + j) ≡ Some o → step_of T (pend l j i) ≡ step_at T (pend l j i) o
-    step_found j i o h g = ap (λ x. if_some x (step_in T (pend l j i)) step.Astray) f ∙ cond-true _ _ _ (lt-ltb j e.len h) ∙ ap (λ x. if_some x (step_at T (pend l j i)) step.Astray) g
+    step_found j i o h g = ap (λ x. if_some x (step_in T (pend l j i)) (Err (astray (pend l j i)))) f ∙ cond-true _ _ _ (lt-ltb j e.len h) ∙ ap (λ x. if_some x (step_at T (pend l j i)) (Err (astray (pend l j i)))) g
 
-    pub step_ended : (j i : ℕ) → e.len ≤ j → step_of T (pend l j i) ≡ step.Ended
-    step_ended j i h = ap (λ x. if_some x (step_in T (pend l j i)) step.Astray) f ∙ cond-false _ _ _ (le-ltb j e.len h)
+    pub step_ended : (j i : ℕ) → e.len ≤ j → step_of T (pend l j i) ≡ Ok step.Ended
+    step_ended j i h = ap (λ x. if_some x (step_in T (pend l j i)) (Err (astray (pend l j i)))) f ∙ cond-false _ _ _ (le-ltb j e.len h)
 
     -- the list begun and listed to its end
     whole : (b : Term) (rows : List Row) (ps : List Pending) → To b l e.len (rows ++ own_rows b) ps → Leads (at (rows ++ own_rows b) (fresh l ∷ ps)) (at (rows ++ rows_of b) ps)
@@ -98,18 +98,18 @@ module _ (T : Text) (m : Room) where
       (own_begun T m n b rows ps e g.listed.found g.listed.holds (omega arith) (omega arith), whole n e g.listed.found b rows ps (ih e (rows ++ own_rows b) ps g.listed.found g.listed.holds (omega arith) free))
 
   module _ (l : ℕ) (e : ListEntry) (f : slice_get T.contents l ≡ Some e) where
-    head_on : (k : ℕ) (o : Operation) (rows : List Row) (ps : List Pending) → k ≡ 1 → k ≤ e.len → slice_get T.operations e.first ≡ Some o → step_at T (pend l 0 0) o ≡ step.Passed → Leads (at rows (pend l 0 0 ∷ ps)) (at (rows ++ []) (pend l k 0 ∷ ps))
+    head_on : (k : ℕ) (o : Operation) (rows : List Row) (ps : List Pending) → k ≡ 1 → k ≤ e.len → slice_get T.operations e.first ≡ Some o → step_at T (pend l 0 0) o ≡ Ok step.Passed → Leads (at rows (pend l 0 0 ∷ ps)) (at (rows ++ []) (pend l k 0 ∷ ps))
     head_on k o rows ps n h g p =
         same _ (at rows (pend l k 0 ∷ ps)) _ (ap (λ (r : List Row). at r (pend l k 0 ∷ ps)) (sym (append-nil rows))) (pass l 0 0 k rows ps n (step_found l e f 0 0 o (omega arith) (ap (slice_get T.operations) (add-zero e.first) ∙ g) ∙ p))
 
     -- a follower with no body
-    plain_on : (t : Term) (j k : ℕ) (o : Operation) (rows : List Row) (ps : List Pending) → k ≡ suc j → k ≤ e.len → slice_get T.operations (e.first + j) ≡ Some o → step_at T (pend l j (last t)) o ≡ step.Passed →
+    plain_on : (t : Term) (j k : ℕ) (o : Operation) (rows : List Row) (ps : List Pending) → k ≡ suc j → k ≤ e.len → slice_get T.operations (e.first + j) ≡ Some o → step_at T (pend l j (last t)) o ≡ Ok step.Passed →
         To t l j rows ps → Leads (at rows (pend l 0 0 ∷ ps)) (at (rows ++ body_rows t) (pend l k (last t) ∷ ps))
     plain_on t j k o rows ps n h g p a =
         on _ (at (rows ++ body_rows t) (pend l j (last t) ∷ ps)) _ a (pass l j (last t) k (rows ++ body_rows t) ps n (step_found l e f j (last t) o (omega arith) g ∙ p))
 
     -- a follower with a body
-    follower_on : (t b : Term) (j k n : ℕ) (o : Operation) (rows : List Row) (ps : List Pending) → k ≡ suc j → k ≤ e.len → slice_get T.operations (e.first + j) ≡ Some o → step_at T (pend l j (last t)) o ≡ step.Body n →
+    follower_on : (t b : Term) (j k n : ℕ) (o : Operation) (rows : List Row) (ps : List Pending) → k ≡ suc j → k ≤ e.len → slice_get T.operations (e.first + j) ≡ Some o → step_at T (pend l j (last t)) o ≡ Ok (step.Body n) →
         Named T l n (λ e. Spine T n e.first e.len b) → length rows + length (body_rows t ++ rows_of b) ≤ m.of_rows → length ps + suc (nesting b) < m.of_lists → Lists b n → To t l j rows ps →
         Leads (at rows (pend l 0 0 ∷ ps)) (at (rows ++ (body_rows t ++ rows_of b)) (pend l k (last t) ∷ ps))
     follower_on t b j k n o rows ps q h g p nd r free ih a =
@@ -119,7 +119,7 @@ module _ (T : Text) (m : Room) where
         let v = length-append rows (body_rows t) in
         let i = last t in
         let x = body_on l n b more (pend l k i ∷ ps) nd (omega arith) (omega arith) ih in
-        let d : step_of T (pend l j i) ≡ step.Body n = step_found l e f j i o (omega arith) g ∙ p in
+        let d : step_of T (pend l j i) ≡ Ok (step.Body n) = step_found l e f j i o (omega arith) g ∙ p in
         on _ (at more (pend l j i ∷ ps)) _ a
         (same _ (at (more ++ rows_of b) (pend l k i ∷ ps)) _ (ap (λ (y : List Row). at y (pend l k i ∷ ps)) (append_assoc rows (body_rows t) (rows_of b)))
         (on _ (at (more ++ own_rows b) (fresh n ∷ pend l k i ∷ ps)) _
@@ -127,10 +127,10 @@ module _ (T : Text) (m : Room) where
         x.1))
 
     -- at the head of an object
-    object_step : (a n i : ℕ) → 0 < e.len → slice_get T.operations e.first ≡ Some (op.Object a n) → (d : Step) → cond (ltb i n) (method_step l (slice_get T.methods (a + i))) step.Passed ≡ d → step_of T (pend l 0 i) ≡ d
+    object_step : (a n i : ℕ) → 0 < e.len → slice_get T.operations e.first ≡ Some (op.Object a n) → (d : Result Step Refusal) → cond (ltb i n) (method_step (pend l 0 i) (slice_get T.methods (a + i))) (Ok step.Passed) ≡ d → step_of T (pend l 0 i) ≡ d
     object_step a n i z g d p = step_found l e f 0 i (op.Object a n) z (ap (slice_get T.operations) (add-zero e.first) ∙ g) ∙ p
 
-    method_on : (i n x : ℕ) (b : Term) (rows : List Row) (ps : List Pending) → step_of T (pend l 0 i) ≡ step.Method x n → Named T l n (λ e. Spine T n e.first e.len b) →
+    method_on : (i n x : ℕ) (b : Term) (rows : List Row) (ps : List Pending) → step_of T (pend l 0 i) ≡ Ok (step.Method x n) → Named T l n (λ e. Spine T n e.first e.len b) →
         length rows + suc (length (rows_of b)) ≤ m.of_rows → length ps + suc (nesting b) < m.of_lists → Lists b n →
         Leads (at rows (pend l 0 i ∷ ps)) (at ((rows ++ method_row x ∷ []) ++ rows_of b) (pend l 0 (i + 1) ∷ ps))
     method_on i n x b rows ps d nd h free ih =
@@ -151,10 +151,10 @@ module _ (T : Text) (m : Room) where
     lists_on (val (Location n)) l e k rows ps f s h r q = head_on l e f k (op.Figure (pos 0)) rows ps s.0 h s.1 refl
     lists_on (object ms) l e k rows ps f s h r q =
         let z : 0 < e.len = omega (arith, s.1) in
-        let none_left : cond (ltb (many ms) (many ms)) (method_step l (slice_get T.methods (s.0 + many ms))) step.Passed ≡ step.Passed = cond-false _ _ _ (le-ltb (many ms) (many ms) (omega arith)) in
+        let none_left : cond (ltb (many ms) (many ms)) (method_step (pend l 0 (many ms)) (slice_get T.methods (s.0 + many ms))) (Ok step.Passed) ≡ Ok step.Passed = cond-false _ _ _ (le-ltb (many ms) (many ms) (omega arith)) in
         on _ (at (rows ++ method_rows ms) (pend l 0 (many ms) ∷ ps)) _
         (methods_on ms l e s.0 (many ms) 0 rows ps f z s.2 (omega arith) (subst (λ (x : ℕ). Entries T l x ms) (sym (add-zero s.0)) s.4) r q)
-        (pass l 0 (many ms) k (rows ++ method_rows ms) ps s.1 (object_step l e f s.0 (many ms) (many ms) z s.2 step.Passed none_left))
+        (pass l 0 (many ms) k (rows ++ method_rows ms) ps s.1 (object_step l e f s.0 (many ms) (many ms) z s.2 (Ok step.Passed) none_left))
     lists_on (select t x) l e k rows ps f s h r q = plain_on l e f t s.0 k (op.Select x) rows ps s.1 h s.2 refl (lists_on t l e s.0 rows ps f s.3 (omega (arith, s.1)) r q)
     lists_on (update t x b) l e k rows ps f s h r q =
         let u = length-append (body_rows t) (rows_of b) in
@@ -177,12 +177,12 @@ module _ (T : Text) (m : Room) where
         let t₁ = length-append (rows_of b) (method_rows ms) in
         let t₂ = length-append rows (method_row x ∷ []) in
         let t₃ = length-append more (rows_of b) in
-        let here : cond (ltb i n) (method_step l (slice_get T.methods (a + i))) step.Passed ≡ step.Method x s.0 =
-        cond-true _ _ _ (lt-ltb i n (omega arith)) ∙ ap (method_step l) s.1 ∙ cond-true _ _ _ (lt-ltb l s.0 s.2.above) in
+        let here : cond (ltb i n) (method_step (pend l 0 i) (slice_get T.methods (a + i))) (Ok step.Passed) ≡ Ok (step.Method x s.0) =
+        cond-true _ _ _ (lt-ltb i n (omega arith)) ∙ ap (method_step (pend l 0 i)) s.1 ∙ cond-true _ _ _ (lt-ltb l s.0 s.2.above) in
         let ix : suc (a + i) ≡ a + (i + 1) = omega arith in
         let shape : (more ++ rows_of b) ++ method_rows ms ≡ rows ++ method_rows (method x b ms) = append_assoc more (rows_of b) (method_rows ms) ∙ append_assoc rows (method_row x ∷ []) (rows_of b ++ method_rows ms) in
         on _ (at (more ++ rows_of b) (pend l 0 (i + 1) ∷ ps)) _
-        (method_on l e f i s.0 x b rows ps (object_step l e f a n i z g (step.Method x s.0) here) s.2 (omega arith) (omega arith)
+        (method_on l e f i s.0 x b rows ps (object_step l e f a n i z g (Ok (step.Method x s.0)) here) s.2 (omega arith) (omega arith)
         (λ e₁ rows₁ ps₁ f₁ s₁ r₁ q₁. lists_on b s.0 e₁ e₁.len rows₁ ps₁ f₁ s₁ (omega arith) r₁ q₁))
         (same _ (at ((more ++ rows_of b) ++ method_rows ms) (pend l 0 n ∷ ps)) _ (ap (λ (y : List Row). at y (pend l 0 n ∷ ps)) shape)
         (methods_on ms l e a n (i + 1) (more ++ rows_of b) ps f z g (omega arith) (subst (λ (y : ℕ). Entries T l y ms) ix s.3) (omega arith) (omega arith)))
@@ -201,7 +201,7 @@ module _ (T : Text) (m : Room) where
 
   pub at_end : (rows : List Row) (j : ℕ) (r : Result (List Row) Refusal) → walked j T m (at rows []) ≡ Some r → r ≡ Ok rows
   unfolding walked
-  at_end rows zero r h = absurd (let z : ◌≡◌ {A = ℕ} 0 1 = cc in omega arith)
+  at_end rows zero r h = absurd (cc)
   at_end rows (suc j) r h = cc
 
   whole_listed : (n : ℕ) (t : Term) (e : ListEntry) → slice_get T.contents n ≡ Some e → Spine T n e.first e.len t → length (rows_of t) ≤ m.of_rows → nesting t < m.of_lists → listed_whole T m n ≡ Some (Ok (rows_of t))

@@ -1,31 +1,37 @@
--- The lent areas, and what a call that writes rows leaves there.
+-- The lent areas, and what a listing under way has written and leaves as it was.
 use Rattle.std.specs.Prelude.{◌≡◌, ℕ, ◌≤◌, List, length, take, drop, Ok, Err, Result}
-use Rattle.calculus.specs.declared.stack.Stack.{Stack}
 use Rattle.calculus.specs.declared.rows.Row.{Row}
 use Rattle.calculus.specs.declared.refusals.Refusal.{Refusal}
 use Rattle.calculus.specs.Held.{counted, held, room}
 use Rattle.listing.specs.declared.pending.Pending.{Pending}
+use Rattle.listing.specs.declared.writing.Listing.{Listing}
 use Rattle.listing.specs.Listing.{State, Room}
 
-abbrev pub row_room : List Row → ℕ
-row_room rows = counted (length rows)
-
-abbrev pub rooms : List Row → Stack Pending → Room
-rooms rows stack = record { of_rows = row_room rows; of_lists = room stack }
-
 abbrev pub lent_rooms : List Row → List Pending → Room
-lent_rooms rows area = record { of_rows = row_room rows; of_lists = counted (length area) }
+lent_rooms rows area = record { of_rows = counted (length rows); of_lists = counted (length area) }
 
-abbrev pub state_of : ℕ → List Row → Stack Pending → State
-state_of n rows stack = record { rows = take n rows; pending = held stack }
+abbrev pub row_room : Listing → ℕ
+row_room s = counted (length s.area.now)
 
--- an answer's count as what it counts
-abbrev pub told : {X : Type 0} → Result ℕ Refusal → (ℕ → X) → Result X Refusal
+abbrev pub rows_in : Listing → List Row
+rows_in s = take s.count s.area.now
+
+abbrev pub rooms : Listing → Room
+rooms s = record { of_rows = row_room s; of_lists = room s.pending.now }
+
+abbrev pub state_of : Listing → State
+state_of s = record { rows = rows_in s; pending = held s.pending.now }
+
+-- an answer, with what it stands for
+abbrev pub told : {A X : Type 0} → Result A Refusal → (A → X) → Result X Refusal
 told (Ok n) f = Ok (f n)
 told (Err e) f = Err e
 
--- rows are written from place `from` up to place `to`, and not past it
-pub record Wrote (from to : ℕ) (before after : List Row) : Type 0 where
-  pub up : from ≤ to
-  pub within : to ≤ row_room after
-  pub rest : drop to after ≡ drop to before
+-- it reads the same code and writes in the same areas, after the rows written before, and nothing past those written now
+pub record Keeps (before after : Listing) : Type 0 where
+  pub same_code : after.code ≡ before.code
+  pub same_room : room after.pending.now ≡ room before.pending.now
+  pub same_area : after.area.ghost_name ≡ before.area.ghost_name
+  pub long : length after.area.now ≡ length before.area.now
+  pub up : before.count ≤ after.count
+  pub past : drop after.count after.area.now ≡ drop after.count before.area.now

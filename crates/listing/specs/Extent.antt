@@ -1,5 +1,6 @@
 -- Which lists are those of a program.
-use Rattle.std.specs.Prelude.{slice_get, ◌≡◌, ℕ, suc, ◌+◌, cond, List, [], ◌∷◌, length, drop, Some, None, Option, ◌==◌}
+use Rattle.std.specs.Prelude.{slice_get, ◌≡◌, ℕ, ◌+◌, cond, List, length, drop, Some, None, Option, ◌==◌}
+use Rattle.std.specs.List.{prefix_len}
 use Rattle.calculus.specs.declared.code.ListEntry.{ListEntry}
 use Rattle.calculus.specs.Places.{if_some}
 use Rattle.calculus.specs.Terms.{Term}
@@ -9,8 +10,7 @@ use Rattle.calculus.specs.Layout.{compiled}
 
 -- how many bodies come before the next main list
 abbrev pub run : List ListEntry → ℕ
-run [] = 0
-run (e ∷ es) = cond (e.mark == 0) (suc (run es)) 0
+run es = prefix_len (λ e. e.mark == 0) es
 
 -- the number after the last list of a program
 abbrev pub end_of : Text → ℕ → Option ℕ

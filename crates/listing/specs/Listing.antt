@@ -33,6 +33,10 @@ unfoldable pub written : Text → ℕ → ℕ → ListEntry → ℕ → List Row
 written T room l e zero rows = Ok rows
 written T room l e (suc k) rows = then (row_at T l e k) (λ r. then (put room rows r) (written T room l e k))
 
+-- one list more is pending
+abbrev pub pended : Room → State → Pending → Result State Refusal
+pended m s p = cond (nat_lt (length s.pending) m.of_lists) (Ok (record { rows = s.rows; pending = p ∷ s.pending })) (Err (StackFull p.list))
+
 abbrev pub fresh : ℕ → Pending
 fresh l = record { list = l; next = 0; method = 0 }
 
@@ -57,12 +61,12 @@ abbrev pub next_method : Pending → Pending
 next_method p = record { list = p.list; next = p.next; method = p.method + 1 }
 
 -- a turn of the last list begun
-abbrev pub carried : Text → Room → List Row → Pending → List Pending → Step → Result State Refusal
-carried T m rows p ps step.Ended = Ok (record { rows = rows; pending = ps })
-carried T m rows p ps step.Passed = Ok (record { rows = rows; pending = passed p ∷ ps })
-carried T m rows p ps (step.Method x b) = then (put m.of_rows rows (method_row x)) (λ rs. begun T m b rs (next_method p ∷ ps))
-carried T m rows p ps (step.Body b) = begun T m b rows (passed p ∷ ps)
-carried T m rows p ps step.Astray = Err (Astray p.list p.next)
+abbrev pub carried : Text → Room → List Row → Pending → List Pending → Result Step Refusal → Result State Refusal
+carried T m rows p ps (Ok step.Ended) = Ok (record { rows = rows; pending = ps })
+carried T m rows p ps (Ok step.Passed) = Ok (record { rows = rows; pending = passed p ∷ ps })
+carried T m rows p ps (Ok (step.Method x b)) = then (put m.of_rows rows (method_row x)) (λ rs. begun T m b rs (next_method p ∷ ps))
+carried T m rows p ps (Ok (step.Body b)) = begun T m b rows (passed p ∷ ps)
+carried T m rows p ps (Err e) = Err e
 
 abbrev pub Answer : Type 0
 Answer = Option (Result (List Row) Refusal)

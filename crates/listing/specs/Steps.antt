@@ -41,32 +41,35 @@ proper T l k (op.Let b) = nat_lt 0 k && nat_lt l b
 abbrev pub row_at : Text → ℕ → ListEntry → ℕ → Result Row Refusal
 row_at T l e k = if_some (slice_get T.operations (e.first + k)) (λ o. cond (proper T l k o) (Ok (row_of o)) (Err (Astray l k))) (Err (Astray l k))
 
-abbrev pub method_step : ℕ → Option MethodEntry → Step
-method_step l (Some m) = cond (nat_lt l m.list) (step.Method m.label m.list) step.Astray
-method_step l None = step.Astray
+-- where a pending list goes astray
+abbrev pub astray : Pending → Refusal
+astray p = Astray p.list p.next
+
+abbrev pub method_step : Pending → Option MethodEntry → Result Step Refusal
+method_step p (Some m) = cond (nat_lt p.list m.list) (Ok (step.Method m.label m.list)) (Err (astray p))
+method_step p None = Err (astray p)
 
 -- what a pending list has next at an operation
-abbrev pub step_at : Text → Pending → Operation → Step
-step_at T p (op.Access i) = step.Passed
-step_at T p (op.Figure v) = step.Passed
-step_at T p (op.Object f n) = cond (nat_lt p.method n) (method_step p.list (slice_get T.methods (f + p.method))) step.Passed
-step_at T p (op.Select x) = step.Passed
-step_at T p (op.Update x b) = step.Body b
-step_at T p op.Clone = step.Passed
-step_at T p (op.Let b) = step.Body b
+abbrev pub step_at : Text → Pending → Operation → Result Step Refusal
+step_at T p (op.Access i) = Ok step.Passed
+step_at T p (op.Figure v) = Ok step.Passed
+step_at T p (op.Object f n) = cond (nat_lt p.method n) (method_step p (slice_get T.methods (f + p.method))) (Ok step.Passed)
+step_at T p (op.Select x) = Ok step.Passed
+step_at T p (op.Update x b) = Ok (step.Body b)
+step_at T p op.Clone = Ok step.Passed
+step_at T p (op.Let b) = Ok (step.Body b)
 
-abbrev pub step_in : Text → Pending → ListEntry → Step
-step_in T p e = cond (nat_lt p.next e.len) (if_some (slice_get T.operations (e.first + p.next)) (step_at T p) step.Astray) step.Ended
+abbrev pub step_in : Text → Pending → ListEntry → Result Step Refusal
+step_in T p e = cond (nat_lt p.next e.len) (if_some (slice_get T.operations (e.first + p.next)) (step_at T p) (Err (astray p))) (Ok step.Ended)
 
-abbrev pub step_of : Text → Pending → Step
-step_of T p = if_some (slice_get T.contents p.list) (step_in T p) step.Astray
+abbrev pub step_of : Text → Pending → Result Step Refusal
+step_of T p = if_some (slice_get T.contents p.list) (step_in T p) (Err (astray p))
 
 abbrev pub is_method : Step → Bool
 is_method step.Ended = false
 is_method step.Passed = false
 is_method (step.Method x b) = true
 is_method (step.Body b) = false
-is_method step.Astray = false
 
 -- whether the operation at hand is passed
 abbrev pub passes : Step → Bool
@@ -74,4 +77,3 @@ passes step.Ended = false
 passes step.Passed = true
 passes (step.Method x b) = false
 passes (step.Body b) = true
-passes step.Astray = false

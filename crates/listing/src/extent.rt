@@ -1,5 +1,5 @@
 //! Which lists are those of a program.
-ghost use Rattle.std.specs.Prelude.{◌≡◌, ◌+◌, drop};
+ghost use Rattle.std.specs.Prelude.{◌≡◌, ◌+◌, ◌≤◌, length, drop};
 ghost use Rattle.calculus.specs.Text.{text_of};
 ghost use Rattle.listing.specs.Extent.{run, end_of, Extent};
 
@@ -8,13 +8,13 @@ use calculus::lookup::entry_at;
 
 /// The number of the first list from a number on that is no body, or where the contents end.
 fn bodies_end(contents: &[ListEntry], from: usize) -> usize
+    requires { from ≤ length contents.now }
     ensures { result ≡ from + run (drop from contents.now) }
 {
-    let mut end = from;
-    while end < contents.len() && contents[end].mark == 0 {
-        end += 1;
-    }
-    end
+    from + contents[from..]
+        .iter()
+        .take_while(|entry| entry.mark == 0)
+        .count()
 }
 
 /// The number after the last list of a program, if there is such a main list: its bodies are those that follow it.

@@ -23,45 +23,41 @@ mod writing;
 
 use crate::pending::Pending;
 use crate::turning::list_program;
-use calculus::area::used_of;
-use calculus::code::{Counts, Tables};
+use calculus::code::CodeArea;
 use calculus::refusals::Refusal;
 use calculus::rows::Row;
 
-/// Lists a program back: writes its rows from the front of `area` and says how many they are.
+/// Lists a program back: writes its rows from the front of `rows` and says how many they are.
 /// `stack` is room for the lists that are begun and not ended; 200 are enough for compiled code.
 pub fn list_back(
     program: u32,
-    tables: &Tables<'_>,
-    counts: Counts,
-    area: &mut [Row],
+    area: &CodeArea<'_>,
+    rows: &mut [Row],
     stack: &mut [Pending],
 ) -> Result<u32, Refusal>
     // the rows, or the first refusal
-    ensures answer { Some (told result (λ n. take n area.new)) ≡ answer tables.now counts (lent_rooms area.old stack.old) program }
-    // past the rows written the area is as it was
-    ensures kept { IfOk result (λ n. (n ≤ length area.new) × (drop n area.new ≡ drop n area.old)) }
+    ensures answer { Some (told result (λ n. take n rows.new)) ≡ answer area.now.tables area.now.counts (lent_rooms rows.old stack.old) program }
+    // past the rows written they are as they were
+    ensures kept { IfOk result (λ n. (n ≤ length rows.new) × (drop n rows.new ≡ drop n rows.old)) }
     // whatever the tables hold, what comes back is the rows of a term that the program stands for
-    ensures only { IfOk result (λ n. (t : Term) × (g : ℕ) × Program (used tables.now counts) program g (trans t done) × (take n area.new ≡ rows_of t)) }
+    ensures only { IfOk result (λ n. (t : Term) × (g : ℕ) × Program (used area.now.tables area.now.counts) program g (trans t done) × (take n rows.new ≡ rows_of t)) }
     // what stands for the tree of a term comes back as the term's rows, where there is room
     ensures stands { (t : Term) (g : ℕ) →
-        within counts (rooms tables.now) ≡ true →
-        Program (used tables.now counts) program g (trans t done) →
-        length (rows_of t) ≤ counted (length area.old) →
+        within area.now.counts (rooms area.now.tables) ≡ true →
+        Program (used area.now.tables area.now.counts) program g (trans t done) →
+        length (rows_of t) ≤ counted (length rows.old) →
         nesting t < counted (length stack.old) →
-        Gave (rows_of t) result area.old area.new }
+        Gave (rows_of t) result rows.old rows.new }
     // what was compiled comes back as the rows compiled, whatever was compiled before and after
-    ensures compiled { (T U : Text) (rows : List Row) (g : ℕ) (t : Term) →
-        within counts (rooms tables.now) ≡ true →
-        used tables.now counts ≡ joined (compiled T g t) U → program ≡ length T.contents →
-        Is rows t → fits t 1 g ≡ true →
-        length rows ≤ counted (length area.old) → 200 ≤ counted (length stack.old) →
-        Gave (map plain rows) result area.old area.new }
+    ensures compiled { (T U : Text) (table : List Row) (g : ℕ) (t : Term) →
+        within area.now.counts (rooms area.now.tables) ≡ true →
+        used area.now.tables area.now.counts ≡ joined (compiled T g t) U → program ≡ length T.contents →
+        Is table t → fits t 1 g ≡ true →
+        length table ≤ counted (length rows.old) → 200 ≤ counted (length stack.old) →
+        Gave (map plain table) result rows.old rows.new }
 {
-    match used_of(tables, counts) {
-        Some(code) => list_program(program, &code, area, stack),
-        None => Err(Refusal::CountOutside),
-    }
+    let code = area.used().ok_or(Refusal::CountOutside)?;
+    list_program(program, &code, rows, stack)
 }
 
 /// A program that stands for the tree of a term is listed back as the term's rows.

@@ -1,7 +1,9 @@
 //! Lists that are begun and not ended.
+ghost use Rattle.std.specs.Prelude.{◌≡◌, ◌+◌, ◌^◌, ◌<◌};
+ghost use Rattle.listing.specs.Listing.{passed, next_method};
 
 /// A list whose own rows are written: the operation and the method whose body comes next.
-#[derive(Clone, Copy)]
+#[derive(Clone, Copy, Default)]
 pub struct Pending {
     pub list: u32,
     pub next: u32,
@@ -10,7 +12,7 @@ pub struct Pending {
 
 /// What a pending list has next.
 #[derive(Clone, Copy)]
-pub enum Step {
+pub(crate) enum Step {
     /// No operation is left.
     Ended,
     /// An operation without a body, or whose bodies are written.
@@ -19,6 +21,28 @@ pub enum Step {
     Method(u16, u32),
     /// The list of a follower's body.
     Body(u32),
-    /// The code does not belong together here.
-    Astray,
+}
+
+impl Pending {
+    /// The same list, with the operation at hand passed.
+    pub(crate) fn pass(self) -> Pending
+        requires { self.next + 1 < 2 ^ 32 }
+        ensures { result ≡ passed self }
+    {
+        Pending {
+            next: self.next + 1,
+            ..self
+        }
+    }
+
+    /// The same list, with the method at hand passed.
+    pub(crate) fn pass_method(self) -> Pending
+        requires { self.method + 1 < 2 ^ 32 }
+        ensures { result ≡ next_method self }
+    {
+        Pending {
+            method: self.method + 1,
+            ..self
+        }
+    }
 }

@@ -1,31 +1,26 @@
 //! What stands in the tables.
-ghost use Rattle.std.specs.Prelude.{◌≡◌, ◌+◌, ◌-◌, ◌^◌, ◌<◌, true};
+ghost use Rattle.std.specs.Prelude.{◌≡◌, ◌+◌, ◌-◌, ◌^◌, ◌<◌, true, IfOk};
 ghost use Rattle.calculus.specs.Text.{text_of};
-ghost use Rattle.listing.specs.Steps.{row_of, proper, row_at, step_at, step_in, step_of, method_step, is_method, passes};
+ghost use Rattle.listing.specs.Steps.{row_of, proper, row_at, astray, step_at, step_in, step_of, method_step, is_method, passes};
 
 use crate::pending::{Pending, Step};
 use calculus::code::{Code, ListEntry, MethodEntry, Operation};
 use calculus::lookup::entry_at;
 use calculus::refusals::Refusal;
-use calculus::rows::{CLONE, FIGURE, LET, OBJECT, Row, SELECT, UPDATE, VARIABLE};
+use calculus::rows::{Row, RowKind};
 
 /// The row of an operation.
 fn row_of(operation: Operation) -> Row
     ensures { result ≡ row_of operation }
 {
-    let (kind, label, number) = match operation {
-        Operation::Access(index) => (VARIABLE, 0, index as i64),
-        Operation::Figure(figure) => (FIGURE, 0, figure),
-        Operation::Object { first: _, count } => (OBJECT, 0, count as i64),
-        Operation::Select(label) => (SELECT, label, 0),
-        Operation::Update(label, _) => (UPDATE, label, 0),
-        Operation::Clone => (CLONE, 0, 0),
-        Operation::Let(_) => (LET, 0, 0),
-    };
-    Row {
-        kind,
-        label,
-        number,
+    match operation {
+        Operation::Access(index) => Row::new(RowKind::Variable, 0, i64::from(index)),
+        Operation::Figure(figure) => Row::new(RowKind::Figure, 0, figure),
+        Operation::Object { first: _, count } => Row::new(RowKind::Object, 0, i64::from(count)),
+        Operation::Select(label) => Row::new(RowKind::Select, label, 0),
+        Operation::Update(label, _) => Row::new(RowKind::Update, label, 0),
+        Operation::Clone => Row::new(RowKind::Clone, 0, 0),
+        Operation::Let(_) => Row::new(RowKind::Let, 0, 0),
     }
 }
 
@@ -38,8 +33,7 @@ fn is_proper(code: &Code<'_>, list: u32, place: u32, operation: Operation) -> bo
         Operation::Object { first, count } => place == 0
             && first as usize + count as usize <= code.methods.len(),
         Operation::Select(_) | Operation::Clone => 0 < place,
-        Operation::Update(_, body) => 0 < place && list < body,
-        Operation::Let(body) => 0 < place && list < body,
+        Operation::Update(_, body) | Operation::Let(body) => 0 < place && list < body,
     }
 }
 
@@ -61,65 +55,61 @@ pub(crate) fn row_at(
     }
 }
 
+/// Where a pending list goes astray.
+fn astray(pending: Pending) -> Refusal
+    ensures { result ≡ astray pending }
+{
+    Refusal::Astray {
+        list: pending.list,
+        operation: pending.next,
+    }
+}
+
 /// What a method's entry says.
-fn method_step(list: u32, method: Option<MethodEntry>) -> Step
-    ensures { result ≡ method_step list method }
+fn method_step(pending: Pending, method: Option<MethodEntry>) -> Result<Step, Refusal>
+    ensures { result ≡ method_step pending method }
 {
     match method {
-        Some(entry) if list < entry.list => Step::Method(entry.label, entry.list),
-        _ => Step::Astray,
+        Some(entry) if pending.list < entry.list => Ok(Step::Method(entry.label, entry.list)),
+        _ => Err(astray(pending)),
     }
 }
 
 /// What a pending list has next at an operation.
-fn step_at(code: &Code<'_>, pending: Pending, operation: Operation) -> Step
+fn step_at(code: &Code<'_>, pending: Pending, operation: Operation) -> Result<Step, Refusal>
     ensures is { result ≡ step_at (text_of code.now) pending operation }
-    ensures few { is_method result ≡ true → pending.method + 1 < 2 ^ 32 }
+    ensures few { IfOk result (λ step. is_method step ≡ true → pending.method + 1 < 2 ^ 32) }
 {
     match operation {
-        Operation::Object { first, count } => {
-            if pending.method < count {
-                method_step(
-                    pending.list,
-                    entry_at(code.methods, first as usize + pending.method as usize),
-                )
-            } else {
-                Step::Passed
-            }
-        }
-        Operation::Update(_, body) => Step::Body(body),
-        Operation::Let(body) => Step::Body(body),
-        Operation::Access(_) | Operation::Figure(_) | Operation::Select(_) | Operation::Clone =>
-            Step::Passed,
+        Operation::Object { first, count } if pending.method < count => method_step(
+            pending,
+            entry_at(code.methods, first as usize + pending.method as usize),
+        ),
+        Operation::Update(_, body) | Operation::Let(body) => Ok(Step::Body(body)),
+        _ => Ok(Step::Passed),
     }
 }
 
 /// What a pending list with this entry has next.
-fn step_in(code: &Code<'_>, pending: Pending, entry: ListEntry) -> Step
+fn step_in(code: &Code<'_>, pending: Pending, entry: ListEntry) -> Result<Step, Refusal>
     ensures is { result ≡ step_in (text_of code.now) pending entry }
-    ensures few { is_method result ≡ true → pending.method + 1 < 2 ^ 32 }
-    ensures short { passes result ≡ true → pending.next + 1 < 2 ^ 32 }
+    ensures few { IfOk result (λ step. is_method step ≡ true → pending.method + 1 < 2 ^ 32) }
+    ensures short { IfOk result (λ step. passes step ≡ true → pending.next + 1 < 2 ^ 32) }
 {
     if pending.next >= entry.len {
-        return Step::Ended;
+        return Ok(Step::Ended);
     }
-    match entry_at(
-        code.operations,
-        entry.first as usize + pending.next as usize,
-    ) {
-        Some(operation) => step_at(code, pending, operation),
-        None => Step::Astray,
-    }
+    let place = entry.first as usize + pending.next as usize;
+    let operation = entry_at(code.operations, place).ok_or(astray(pending))?;
+    step_at(code, pending, operation)
 }
 
 /// What a pending list has next.
-pub(crate) fn step_of(code: &Code<'_>, pending: Pending) -> Step
+pub(crate) fn step_of(code: &Code<'_>, pending: Pending) -> Result<Step, Refusal>
     ensures is { result ≡ step_of (text_of code.now) pending }
-    ensures few { is_method result ≡ true → pending.method + 1 < 2 ^ 32 }
-    ensures short { passes result ≡ true → pending.next + 1 < 2 ^ 32 }
+    ensures few { IfOk result (λ step. is_method step ≡ true → pending.method + 1 < 2 ^ 32) }
+    ensures short { IfOk result (λ step. passes step ≡ true → pending.next + 1 < 2 ^ 32) }
 {
-    match entry_at(code.contents, pending.list as usize) {
-        Some(entry) => step_in(code, pending, entry),
-        None => Step::Astray,
-    }
+    let entry = entry_at(code.contents, pending.list as usize).ok_or(astray(pending))?;
+    step_in(code, pending, entry)
 }

@@ -1,9 +1,7 @@
-//! The rows of one list.
-ghost use Rattle.std.specs.Prelude.{◌≡◌, ◌-◌, ◌<◌, ◌≤◌, ◌∷◌, length, take, IfOk};
-ghost use Rattle.calculus.specs.Held.{held, room};
+//! A listing under way, and the rows of one list.
+ghost use Rattle.std.specs.Prelude.{◌≡◌, ◌≤◌, length};
+ghost use Rattle.calculus.specs.Held.{counted, held};
 ghost use Rattle.calculus.specs.Text.{text_of};
-ghost use Rattle.listing.specs.Listing.{put, written, begun};
-ghost use Rattle.listing.specs.Areas.{row_room, rooms, state_of, told, Wrote};
 
 use crate::pending::Pending;
 use crate::reading::row_at;
@@ -11,85 +9,99 @@ use calculus::code::{Code, ListEntry};
 use calculus::lookup::entry_at;
 use calculus::refusals::Refusal;
 use calculus::rows::Row;
-use calculus::stack::{MOST_ENTRIES, Stack};
+use calculus::stack::{Stack, counted_len};
 
-/// Writes a row, if it finds room.
-pub(crate) fn put_row(rows: &mut [Row], at: usize, row: Row) -> Result<usize, Refusal>
-    requires { at ≤ row_room rows.old }
-    ensures answer { told result (λ n. take n rows.new) ≡ put (row_room rows.old) (take at rows.old) row }
-    ensures kept { IfOk result (λ n. Wrote at n rows.old rows.new) }
-{
-    if at >= MOST_ENTRIES || at >= rows.len() {
-        return Err(Refusal::RowsShort);
-    }
-    rows[at] = row;
-    Ok(at + 1)
+/// A listing under way: the code that is read, the lists that are begun and not ended, and the rows written so far,
+/// which are the first `count` of a lent area (no `Stack`, since the lender is also told what lies past them).
+#[derive(Drop)]
+pub(crate) struct Listing<'a, 'p> {
+    pub(crate) code: Code<'a>,
+    pub(crate) pending: &'a mut Stack<'p, Pending>,
+    area: &'a mut [Row],
+    count: usize,
+    ghost fits: { count ≤ counted (length area.now) },
 }
 
-/// Writes the rows of a list's own operations, the last one first.
-fn write_list(
-    code: &Code<'_>,
-    list: u32,
-    found: ListEntry,
-    rows: &mut [Row],
-    from: usize,
-) -> Result<usize, Refusal>
-    requires { from ≤ row_room rows.old }
-    ensures answer { told result (λ n. take n rows.new) ≡ written (text_of code.now) (row_room rows.old) list found found.len (take from rows.old) }
-    ensures kept { IfOk result (λ n. Wrote from n rows.old rows.new) }
-{
-    let mut at = from;
-    let mut left = found.len;
-    while left > 0 {
-        left -= 1;
-        match row_at(code, list, found, left) {
-            Ok(row) => match put_row(rows, at, row) {
-                Ok(next) => at = next,
-                Err(refusal) => return Err(refusal),
-            },
-            Err(refusal) => return Err(refusal),
+impl<'a, 'p> Listing<'a, 'p> {
+    ghost use Rattle.listing.specs.Listing.{put, pended, written, begun};
+    ghost use Rattle.listing.specs.Areas.{row_room, rooms, rows_in, state_of, told, Keeps};
+
+    /// A listing that has not begun.
+    pub(crate) fn new(
+        code: Code<'a>,
+        pending: &'a mut Stack<'p, Pending>,
+        area: &'a mut [Row],
+    ) -> Listing<'a, 'p>
+        ensures code { result.code ≡ code.entry }
+        ensures pending { result.pending.now ≡ pending.old }
+        ensures same_area { result.area.ghost_name ≡ area.entry.ghost_name }
+        ensures area { result.area.now ≡ area.old }
+        ensures count { result.count ≡ 0 }
+    {
+        Listing {
+            code,
+            pending,
+            area,
+            count: 0,
         }
     }
-    Ok(at)
-}
 
-/// Begins a list: has it pending, and writes its own rows.
-pub(crate) fn begin(
-    code: &Code<'_>,
-    list: u32,
-    stack: &mut Stack<'_, Pending>,
-    rows: &mut [Row],
-    at: usize,
-) -> Result<usize, Refusal>
-    requires { at ≤ row_room rows.old }
-    ensures answer { told result (λ n. state_of n rows.new stack.new) ≡ begun (text_of code.now) (rooms rows.old stack.old) list (take at rows.old) (held stack.old) }
-    ensures kept { IfOk result (λ n. Wrote at n rows.old rows.new) }
-    ensures room { room stack.new ≡ room stack.old }
-{
-    if !stack.has_room() {
-        return Err(Refusal::StackFull { list });
+    /// How many rows are written.
+    pub(crate) fn count(&self) -> u32
+        ensures { result ≡ self.now.count }
+    {
+        self.count as u32
     }
-    match entry_at(code.contents, list as usize) {
-        Some(found) if found.len > 0 => {
-            put_on(
-                stack,
-                Pending {
-                    list,
-                    next: 0,
-                    method: 0,
-                },
-            );
-            write_list(code, list, found, rows, at)
+
+    /// Writes a row, if it finds room.
+    pub(crate) fn put(&mut self, row: Row) -> Result<(), Refusal>
+        ensures answer { told result (λ _. rows_in self.new) ≡ put (row_room self.old) (rows_in self.old) row }
+        ensures pending { self.new.pending.now ≡ self.old.pending.now }
+        ensures kept { Keeps self.old self.new }
+    {
+        if self.count() >= counted_len(self.area.len()) {
+            return Err(Refusal::RowsShort);
         }
-        _ => Err(Refusal::Astray { list, operation: 0 }),
+        self.area[self.count] = row;
+        self.count += 1;
+        Ok(())
     }
-}
 
-/// Puts a pending list onto a stack that has room.
-pub(crate) fn put_on(stack: &mut Stack<'_, Pending>, pending: Pending)
-    requires { length (held stack.old) < room stack.old }
-    ensures held { held stack.new ≡ pending ∷ held stack.old }
-    ensures room { room stack.new ≡ room stack.old }
-{
-    let _ = stack.push(pending);
+    /// Has a list pending, if it finds room.
+    pub(crate) fn pend(&mut self, pending: Pending) -> Result<(), Refusal>
+        ensures answer { told result (λ _. state_of self.new) ≡ pended (rooms self.old) (state_of self.old) pending }
+        ensures kept { Keeps self.old self.new }
+    {
+        self.pending
+            .push(pending)
+            .map_err(|_| Refusal::StackFull { list: pending.list })
+    }
+
+    /// Writes the rows of a list's own operations, the last one first.
+    fn write_list(&mut self, list: u32, found: ListEntry) -> Result<(), Refusal>
+        ensures answer { told result (λ _. rows_in self.new) ≡ written (text_of self.old.code) (row_room self.old) list found found.len (rows_in self.old) }
+        ensures pending { self.new.pending.now ≡ self.old.pending.now }
+        ensures kept { Keeps self.old self.new }
+    {
+        let code = self.code;
+        for place in (0..found.len).rev() {
+            self.put(row_at(&code, list, found, place)?)?;
+        }
+        Ok(())
+    }
+
+    /// Begins a list: has it pending, and writes its own rows.
+    pub(crate) fn begin(&mut self, list: u32) -> Result<(), Refusal>
+        ensures answer { told result (λ _. state_of self.new) ≡ begun (text_of self.old.code) (rooms self.old) list (rows_in self.old) (held self.old.pending.now) }
+        ensures kept { Keeps self.old self.new }
+    {
+        self.pend(Pending {
+            list,
+            ..Pending::default()
+        })?;
+        match entry_at(self.code.contents, list as usize) {
+            Some(found) if found.len > 0 => self.write_list(list, found),
+            _ => Err(Refusal::Astray { list, operation: 0 }),
+        }
+    }
 }

@@ -1,37 +1,48 @@
-use Rattle.std.proofs.Common.{Some, Err, sym, ap, ◌∙◌}
+use Rattle.std.proofs.Common.{◌≡◌, ℕ, take, Some, Err, Result, sym, ap, ◌∙◌}
 use Rattle.std.proofs.lemmas.Bool.{cond-true, cond-false}
+use Rattle.calculus.specs.declared.refusals.Refusal.{Refusal}
 use Rattle.calculus.specs.declared.refusals.Refusal.TheVariants.{CountOutside}
 use Rattle.calculus.specs.Text.{Text}
 use Rattle.listing.specs.Listing.{listed}
-use Rattle.listing.specs.Areas.{lent_rooms}
-use Rattle.listing.proofs.Answering.{kept_of, gives_only, gives_term, gives_compiled}
+use Rattle.listing.specs.Areas.{told, lent_rooms}
+use Rattle.listing.proofs.Rowed.{is_err}
+use Rattle.listing.proofs.Answering.{none_kept, gives_only, gives_term, gives_compiled}
 use Rattle.listing.proofs.list_back.Goals as goal
 
-pub returns-in-Some : goal.returns-in-Some
-returns-in-Some c =
-    let u = c.in-Some.ensures in
-    let w = c.list_program.ensures in
-    let before = c.args.area.now in
-    let after = c.list_program.new.rows in
+pub returns-in_err-code : goal.returns-in_err-code
+returns-in_err-code c =
+    let v = c.in_err-code.ensures in
+    let outside = rw v.ok_part at c.used.ensures in
+    let err = rw v.ok_part at v.value in
+    let why : c.in_err-code.field-0.0 ≡ CountOutside = cc in
+    let e = is_err c.from_residual.result _ c.from_residual.ensures.1 ∙ ap Err why in
+    let a = c.args.area.now in
+    let before = c.args.rows.now in
     let stack = c.args.stack.now in
+    let r = c.from_residual.result in
+    let kept = none_kept r _ before before e in
+    let is = ap (λ (x : Result ℕ Refusal). Some (told x (λ n. take n before))) e ∙ sym (cond-false _ (listed _ (lent_rooms before stack) c.args.program) (Some (Err CountOutside)) outside) in
+    record {
+      answer = is;
+      kept = kept;
+      only = gives_only a.tables a.counts c.args.program before before stack r is;
+      stands = gives_term a.tables a.counts c.args.program r before before stack is kept;
+      compiled = gives_compiled a.tables a.counts c.args.program r before before stack is kept;
+    }
+
+pub returns : goal.returns
+returns c =
+    let u = rw c.in_ok-code.ensures.ok_part at c.used.ensures in
+    let w = c.list_program.ensures in
+    let a = c.args.area.now in
+    let before = c.args.rows.now in
+    let stack = c.args.stack.now in
+    let r = c.list_program.result in
     let is = w.answer ∙ ap (λ (T : Text). listed T (lent_rooms before stack) c.args.program) u.1 ∙ sym (cond-true _ _ _ u.0) in
     record {
       answer = is;
-      kept = kept_of c.list_program.result before after w.kept;
-      only = gives_only c.args.tables.now c.args.counts c.args.program before after stack c.list_program.result is;
-      stands = gives_term c.args.tables.now c.args.counts c.args.program c.list_program.result before after stack is w.kept;
-      compiled = gives_compiled c.args.tables.now c.args.counts c.args.program c.list_program.result before after stack is w.kept;
-    }
-
-pub returns-in-None : goal.returns-in-None
-returns-in-None c =
-    let before = c.args.area.now in
-    let stack = c.args.stack.now in
-    let is = sym (cond-false _ (listed _ (lent_rooms before stack) c.args.program) (Some (Err CountOutside)) c.in-None.ensures) in
-    record {
-      answer = is;
-      kept = tt;
-      only = tt;
-      stands = gives_term c.args.tables.now c.args.counts c.args.program (Err CountOutside) before before stack is tt;
-      compiled = gives_compiled c.args.tables.now c.args.counts c.args.program (Err CountOutside) before before stack is tt;
+      kept = w.kept;
+      only = gives_only a.tables a.counts c.args.program before _ stack r is;
+      stands = gives_term a.tables a.counts c.args.program r before _ stack is w.kept;
+      compiled = gives_compiled a.tables a.counts c.args.program r before _ stack is w.kept;
     }
