@@ -100,7 +100,7 @@ module _ (T : Text) (cells : List Cell) where
 
   -- an object from its bodies
   drop_nth : (ms : List MethodEntry) (f : ℕ) (e : MethodEntry) → slice_get ms f ≡ Some e → drop f ms ≡ e ∷ drop (suc f) ms
-  drop_nth [] f e h = let z : ◌≡◌ {A = ℕ} 0 1 = cc in absurd (omega arith)
+  drop_nth [] f e h = cc
   drop_nth (x ∷ ms) zero e h = let z : x ≡ e = cc in ap (λ (w : MethodEntry). w ∷ ms) z
   drop_nth (x ∷ ms) (suc f) e h = drop_nth ms f e h
 

@@ -43,7 +43,7 @@ store_given T cells (v ∷ vs) os σ h = store_cells T (cells_with cells vs) (re
 pub both : (a b : Bool) → (a && b) ≡ true → (a ≡ true) × (b ≡ true)
 both true true h = (refl, refl)
 both true false h = (refl, h)
-both false b h = (h, let z : ◌≡◌ {A = ℕ} 0 1 = cc in absurd (omega arith))
+both false b h = (h, cc)
 
 present_within : (n : ℕ) (v : Value) → present n v ≡ true → Within n (val v)
 present_within n (value.Figure k) h = tt
@@ -55,7 +55,7 @@ all_within n (v ∷ vs) h = let p = both (present n v) (all_present n vs) h in (
 
 -- what an accepted start says of its program and givens
 refused_not : {A : Type 0} (e : Refusal) → ◌≡◌ {A = Result Unit Refusal} (Err e) (Ok tt) → A
-refused_not e h = let z : ◌≡◌ {A = ℕ} 0 1 = cc in absurd (omega arith)
+refused_not e h = cc
 
 pub record Accepted (g n : ℕ) (s : State) (vs : List Value) : Type 0 where
   pub givens_are : g ≡ length vs

@@ -21,7 +21,7 @@ both a b p q = ap (λ x. x && b) p ∙ q
 
 parts : (a b : Bool) → (a && b) ≡ true → (a ≡ true) × (b ≡ true)
 parts true b h = (refl, h)
-parts false b h = (h, let z : ◌≡◌ {A = ℕ} 0 1 = cc in absurd (omega arith))
+parts false b h = (h, cc)
 
 -- what fits goes on to fit
 fits_on : (s t : State) (n : ℕ) → Goes s t n → fits s ≡ true → fits t ≡ true
@@ -38,14 +38,14 @@ stays_counted n s t a e f h =
     record {
       allowance_pays = ap (λ r. reductions r + a.state.registers.allowance) e ∙ ap (λ x. reductions s.registers.report + x) f;
       at_most = (let q = ap reductions e in omega (arith, q));
-      at_pause = λ p. let z : ◌≡◌ {A = ℕ} 0 1 = cc in absurd (omega arith);
+      at_pause = λ p. cc;
     }
 
 -- only a pause is answered by a pause
 pauses : (c : Stop) (s : State) → is_paused (answered c s) ≡ true → c ≡ stop.Paused
-pauses (stop.Done v) s h = let z : ◌≡◌ {A = ℕ} 0 1 = cc in absurd (omega arith)
+pauses (stop.Done v) s h = cc
 pauses stop.Paused s h = refl
-pauses (stop.Refused f) s h = let z : ◌≡◌ {A = ℕ} 0 1 = cc in absurd (omega arith)
+pauses (stop.Refused f) s h = cc
 
 ran_counted : (n : ℕ) (s : State) (z : Ran) → Ends n s z → Counted n s (outcome_of z).state (outcome_of z).answer
 ran_counted n s z e =
@@ -91,13 +91,13 @@ resumes_if n k code s m true p f h =
     let g = (run_ends n code s m).goes in
     let same : (outcome_of z).state ≡ z.state = ap (λ c. with_progress z.state (progress_after c z.state.registers.progress)) e in
     ap (λ t. run_text k code t z.store) same ∙ ran_on k code z.state z.store (g.progress_same ∙ p) (fits_on s z.state (run_ends n code s m).made g f) ∙ ap outcome_of (resumes n k code s m e) ∙ sym (ran_on (n + k) code s m p f)
-resumes_if n k code s m false p f h = let z : ◌≡◌ {A = ℕ} 0 1 = cc in absurd (omega arith)
+resumes_if n k code s m false p f h = cc
 
 resumes_in : (p : Progress) (n k : ℕ) (code : Text) (s : State) (m : Meaning) → s.registers.progress ≡ p → is_paused (run_in p n code s m).answer ≡ true →
     run_text k code (run_in p n code s m).state (run_in p n code s m).store ≡ run_text (n + k) code s m
-resumes_in Unused n k code s m e h = let z : ◌≡◌ {A = ℕ} 0 1 = cc in absurd (omega arith)
+resumes_in Unused n k code s m e h = cc
 resumes_in Running n k code s m e h = resumes_if n k code s m (fits s) e refl h
-resumes_in Ended n k code s m e h = let z : ◌≡◌ {A = ℕ} 0 1 = cc in absurd (omega arith)
+resumes_in Ended n k code s m e h = cc
 
 pub resuming : Resumes
 resuming n k code s m h = resumes_in s.registers.progress n k code s m refl h

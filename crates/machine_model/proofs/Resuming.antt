@@ -69,18 +69,18 @@ stopped_never (Err c) s m go no-o h e = no-o (ap Err (err_in e))
     err_in q = cc
 
 rest_never : (d : Result Due Fault) → rest d ≡ Err stop.Paused → ⊥
-rest_never (Ok (Fill v)) e = let z : ◌≡◌ {A = ℕ} 0 1 = cc in omega arith
-rest_never (Ok Return) e = let z : ◌≡◌ {A = ℕ} 0 1 = cc in omega arith
-rest_never (Ok (Done v)) e = let z : ◌≡◌ {A = ℕ} 0 1 = cc in omega arith
-rest_never (Err x) e = let z : ◌≡◌ {A = ℕ} 0 1 = cc in omega arith
-rest_never (Ok (Reduce r)) e = let z : ◌≡◌ {A = ℕ} 0 1 = cc in omega arith
+rest_never (Ok (Fill v)) e = cc
+rest_never (Ok Return) e = cc
+rest_never (Ok (Done v)) e = cc
+rest_never (Err x) e = cc
+rest_never (Ok (Reduce r)) e = cc
 
 or_stop_never : {X : Type 0} (o : Result X Fault) → or_stop o ≡ Err stop.Paused → ⊥
-or_stop_never (Ok x) e = let z : ◌≡◌ {A = ℕ} 0 1 = cc in omega arith
-or_stop_never (Err f) e = let z : ◌≡◌ {A = ℕ} 0 1 = cc in omega arith
+or_stop_never (Ok x) e = cc
+or_stop_never (Err f) e = cc
 
 allowed_never : (n : ℕ) (code : Text) (s : State) (m : Meaning) (a : Action) (b : Bool) → (cond b (halted s m (stop.Refused fault.AllowanceSpent)) (turned (acted code s m a))).answer ≡ Err stop.Paused → ⊥
-allowed_never n code s m a true e = let z : ◌≡◌ {A = ℕ} 0 1 = cc in omega arith
+allowed_never n code s m a true e = cc
 allowed_never n code s m a false e = or_stop_never (acted code s m a).answer e
 
 allowed_some : (n : ℕ) (code : Text) (s : State) (m : Meaning) (a : Action) → allowed (suc n) code s m a ≡ cond (eqb s.registers.allowance 0) (halted s m (stop.Refused fault.AllowanceSpent)) (turned (acted code s m a))

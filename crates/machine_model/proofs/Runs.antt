@@ -23,12 +23,12 @@ turn_acts n code s t m r a hr ht ha hn hl =
 
 stops : {X : Type 0} (o : Result X Stop) (s : State) (m : Meaning) (go : X → Turn) → ((x : X) → (go x).answer ≡ Ok tt → ⊥) → (unless_stopped o s m go).answer ≡ Ok tt → ⊥
 stops (Ok x) s m go h e = h x e
-stops (Err c) s m go h e = let z : ◌≡◌ {A = ℕ} 0 1 = cc in omega arith
+stops (Err c) s m go h e = cc
 
 pub turn_none : (code : Text) (s : State) (m : Meaning) → (turn 0 code s m).answer ≡ Ok tt → ⊥
 turn_none code s m e =
     let t : State = settled code s in
-    stops (rest (due code t)) t m (λ r. unless_stopped (or_stop (decided code m r)) t m (allowed 0 code t m)) (λ r. stops (or_stop (decided code m r)) t m (allowed 0 code t m) (λ a q. let z : ◌≡◌ {A = ℕ} 0 1 = cc in omega arith)) e
+    stops (rest (due code t)) t m (λ r. unless_stopped (or_stop (decided code m r)) t m (allowed 0 code t m)) (λ r. stops (or_stop (decided code m r)) t m (allowed 0 code t m) (λ a q. cc)) e
 
 abbrev pub made : State → Meaning → Turn
 made t k = record { answer = Ok tt; state = t; store = k }

@@ -15,8 +15,8 @@ use Rattle.machine_model.specs.State.{State, due, due_at, goes_on, begins, ends,
 use Rattle.machine_model.specs.Settle.{filled, returned_to, with_frame, vacant, slack, silent, on_due, settled_for, settled, rest}
 
 stays : (d : Result Due Fault) (s : State) (go : State → State) → silent d ≡ false → on_due d s go ≡ s
-stays (Ok (Fill v)) s go h = absurd (let z : ◌≡◌ {A = ℕ} 0 1 = cc in omega arith)
-stays (Ok Return) s go h = absurd (let z : ◌≡◌ {A = ℕ} 0 1 = cc in omega arith)
+stays (Ok (Fill v)) s go h = cc
+stays (Ok Return) s go h = cc
 stays (Ok (Done v)) s go h = refl
 stays (Err x) s go h = refl
 stays (Ok (Reduce r)) s go h = refl
@@ -28,24 +28,24 @@ settled_rest zero code s h = refl
 settled_rest (suc k) code s h = stays (due code s) s (settled_for k code) h
 
 goes_on_fills_not : (v w : Value) (o : Operation) → goes_on w o ≡ Ok (Fill v) → ⊥
-goes_on_fills_not v w (op.Access i) h = let z : ◌≡◌ {A = ℕ} 0 1 = cc in omega arith
-goes_on_fills_not v w (op.Figure k) h = let z : ◌≡◌ {A = ℕ} 0 1 = cc in omega arith
-goes_on_fills_not v w (op.Object f n) h = let z : ◌≡◌ {A = ℕ} 0 1 = cc in omega arith
-goes_on_fills_not v w (op.Select x) h = let z : ◌≡◌ {A = ℕ} 0 1 = cc in omega arith
-goes_on_fills_not v w (op.Update x l) h = let z : ◌≡◌ {A = ℕ} 0 1 = cc in omega arith
-goes_on_fills_not v w op.Clone h = let z : ◌≡◌ {A = ℕ} 0 1 = cc in omega arith
-goes_on_fills_not v w (op.Let l) h = let z : ◌≡◌ {A = ℕ} 0 1 = cc in omega arith
+goes_on_fills_not v w (op.Access i) h = cc
+goes_on_fills_not v w (op.Figure k) h = cc
+goes_on_fills_not v w (op.Object f n) h = cc
+goes_on_fills_not v w (op.Select x) h = cc
+goes_on_fills_not v w (op.Update x l) h = cc
+goes_on_fills_not v w op.Clone h = cc
+goes_on_fills_not v w (op.Let l) h = cc
 
 ends_fills_not : (v w : Value) (fs : List Frame) → ends w fs ≡ Ok (Fill v) → ⊥
-ends_fills_not v w [] h = let z : ◌≡◌ {A = ℕ} 0 1 = cc in omega arith
-ends_fills_not v w (f ∷ fs) h = let z : ◌≡◌ {A = ℕ} 0 1 = cc in omega arith
+ends_fills_not v w [] h = cc
+ends_fills_not v w (f ∷ fs) h = cc
 
 fills_vacant : (f : Result (Option Operation) Fault) (a : Option Value) (cells : List Cell) (fs : List Frame) (e : ℕ) (v : Value) → due_at f a cells fs e ≡ Ok (Fill v) → vacant a ≡ 1
 fills_vacant (Ok (Some o)) None cells fs e v h = refl
 fills_vacant (Ok (Some o)) (Some w) cells fs e v h = absurd (goes_on_fills_not v w o h)
 fills_vacant (Ok None) None cells fs e v h = refl
 fills_vacant (Ok None) (Some w) cells fs e v h = absurd (ends_fills_not v w fs h)
-fills_vacant (Err x) a cells fs e v h = absurd (let z : ◌≡◌ {A = ℕ} 0 1 = cc in omega arith)
+fills_vacant (Err x) a cells fs e v h = cc
 
 pub due_fills_vacant : (code : Text) (s : State) (v : Value) → due code s ≡ Ok (Fill v) → vacant s.registers.accumulator ≡ 1
 due_fills_vacant code s v h = fills_vacant (fetched code s.registers.at.list s.registers.at.next) s.registers.accumulator s.cells s.frames s.registers.at.env v h
@@ -72,30 +72,30 @@ begins_returns_not : (cells : List Cell) (e : ℕ) (o : Operation) → begins ce
 begins_returns_not cells e (op.Access i) h = either (variable cells e i) h
   where
     either : (x : Option Value) → if_some x (λ v. Ok (Fill v)) (Err fault.Astray) ≡ Ok Return → ⊥
-    either (Some v) k = let z : ◌≡◌ {A = ℕ} 0 1 = cc in omega arith
-    either None k = let z : ◌≡◌ {A = ℕ} 0 1 = cc in omega arith
-begins_returns_not cells e (op.Figure k) h = let z : ◌≡◌ {A = ℕ} 0 1 = cc in omega arith
-begins_returns_not cells e (op.Object f n) h = let z : ◌≡◌ {A = ℕ} 0 1 = cc in omega arith
-begins_returns_not cells e (op.Select x) h = let z : ◌≡◌ {A = ℕ} 0 1 = cc in omega arith
-begins_returns_not cells e (op.Update x l) h = let z : ◌≡◌ {A = ℕ} 0 1 = cc in omega arith
-begins_returns_not cells e op.Clone h = let z : ◌≡◌ {A = ℕ} 0 1 = cc in omega arith
-begins_returns_not cells e (op.Let l) h = let z : ◌≡◌ {A = ℕ} 0 1 = cc in omega arith
+    either (Some v) k = cc
+    either None k = cc
+begins_returns_not cells e (op.Figure k) h = cc
+begins_returns_not cells e (op.Object f n) h = cc
+begins_returns_not cells e (op.Select x) h = cc
+begins_returns_not cells e (op.Update x l) h = cc
+begins_returns_not cells e op.Clone h = cc
+begins_returns_not cells e (op.Let l) h = cc
 
 goes_on_returns_not : (w : Value) (o : Operation) → goes_on w o ≡ Ok Return → ⊥
-goes_on_returns_not w (op.Access i) h = let z : ◌≡◌ {A = ℕ} 0 1 = cc in omega arith
-goes_on_returns_not w (op.Figure k) h = let z : ◌≡◌ {A = ℕ} 0 1 = cc in omega arith
-goes_on_returns_not w (op.Object f n) h = let z : ◌≡◌ {A = ℕ} 0 1 = cc in omega arith
-goes_on_returns_not w (op.Select x) h = let z : ◌≡◌ {A = ℕ} 0 1 = cc in omega arith
-goes_on_returns_not w (op.Update x l) h = let z : ◌≡◌ {A = ℕ} 0 1 = cc in omega arith
-goes_on_returns_not w op.Clone h = let z : ◌≡◌ {A = ℕ} 0 1 = cc in omega arith
-goes_on_returns_not w (op.Let l) h = let z : ◌≡◌ {A = ℕ} 0 1 = cc in omega arith
+goes_on_returns_not w (op.Access i) h = cc
+goes_on_returns_not w (op.Figure k) h = cc
+goes_on_returns_not w (op.Object f n) h = cc
+goes_on_returns_not w (op.Select x) h = cc
+goes_on_returns_not w (op.Update x l) h = cc
+goes_on_returns_not w op.Clone h = cc
+goes_on_returns_not w (op.Let l) h = cc
 
 returns_not : (f : Result (Option Operation) Fault) (a : Option Value) (cells : List Cell) (e : ℕ) → due_at f a cells [] e ≡ Ok Return → ⊥
 returns_not (Ok (Some o)) None cells e h = begins_returns_not cells e o h
 returns_not (Ok (Some o)) (Some w) cells e h = goes_on_returns_not w o h
-returns_not (Ok None) None cells e h = let z : ◌≡◌ {A = ℕ} 0 1 = cc in omega arith
-returns_not (Ok None) (Some w) cells e h = let z : ◌≡◌ {A = ℕ} 0 1 = cc in omega arith
-returns_not (Err x) a cells e h = let z : ◌≡◌ {A = ℕ} 0 1 = cc in omega arith
+returns_not (Ok None) None cells e h = cc
+returns_not (Ok None) (Some w) cells e h = cc
+returns_not (Err x) a cells e h = cc
 
 -- with no frame there is no return
 pub due_returns_not : (code : Text) (s : State) → s.frames ≡ [] → due code s ≡ Ok Return → ⊥

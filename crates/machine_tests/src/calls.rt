@@ -1,12 +1,38 @@
 //! The calls of a case.
 use crate::areas::Area;
-use crate::numbers::word;
+use crate::numbers::fitted;
 use crate::saying::{say_objects, say_run, say_start};
-use calculus::code::Tables;
+use calculus::refusals::Refusal;
 use machine::machine::Machine;
 use machine_model::answers::RunAnswer;
 use std::io;
 use store::store::Store;
+
+/// What a line calls.
+#[derive(Clone, Copy)]
+pub enum Call {
+    Start { program: u32, allowance: u32 },
+    Run(u32),
+    /// Runs of one reduction until one does not pause.
+    Pieces,
+    /// What the store has.
+    Objects,
+}
+
+/// The call of a line, if it is one.
+pub fn call_of(name: &str, numbers: [i64; 6]) -> Option<Call> {
+    let [first, second, ..] = numbers;
+    match name {
+        "start" => Some(Call::Start {
+            program: fitted(first),
+            allowance: fitted(second),
+        }),
+        "run" => Some(Call::Run(fitted(first))),
+        "pieces" => Some(Call::Pieces),
+        "objects" => Some(Call::Objects),
+        _ => None,
+    }
+}
 
 fn start<S: Store>(
     area: &mut Area,
@@ -14,22 +40,14 @@ fn start<S: Store>(
     store: &S,
     program: u32,
     allowance: u32,
-) -> Result<(), calculus::refusals::Refusal> {
-    let tables = Tables {
-        contents: &mut area.contents,
-        operations: &mut area.operations,
-        methods: &mut area.methods,
-    };
-    machine.start(&tables, area.used, store, program, &area.givens, allowance)
+) -> Result<(), Refusal> {
+    let (code, givens) = area.lent();
+    machine.start(&code, store, program, givens, allowance)
 }
 
 fn run<S: Store>(area: &mut Area, machine: &mut Machine<'_>, store: &mut S, n: u32) -> RunAnswer {
-    let tables = Tables {
-        contents: &mut area.contents,
-        operations: &mut area.operations,
-        methods: &mut area.methods,
-    };
-    machine.run(&tables, area.used, store, n)
+    let (code, _) = area.lent();
+    machine.run(&code, store, n)
 }
 
 /// Runs of one reduction until one does not pause, and how many paused.
@@ -52,23 +70,20 @@ fn pieces<S: Store>(
     println!(rt; "  paused too often")
 }
 
-/// Carries out a call, or repeats a line that is none.
-pub fn call<S: Store>(
+/// Makes a call, and says what it answers.
+pub fn make_call<S: Store>(
     rt: &HostRuntime,
     area: &mut Area,
     machine: &mut Machine<'_>,
     store: &mut S,
-    name: &str,
-    numbers: [i64; 6],
+    call: Call,
 ) -> io::Result<()> {
-    match name {
-        "start" => say_start(
-            rt,
-            start(area, machine, store, word(numbers[0]), word(numbers[1])),
-        ),
-        "run" => say_run(rt, run(area, machine, store, word(numbers[0]))),
-        "pieces" => pieces(rt, area, machine, store),
-        "objects" => say_objects(rt, store),
-        _ => Ok(()),
+    match call {
+        Call::Start { program, allowance } => {
+            say_start(rt, start(area, machine, store, program, allowance))
+        }
+        Call::Run(n) => say_run(rt, run(area, machine, store, n)),
+        Call::Pieces => pieces(rt, area, machine, store),
+        Call::Objects => say_objects(rt, store),
     }
 }

@@ -1,81 +1,89 @@
 //! What is put into a machine and a store by hand.
-use crate::numbers::{label, long, word};
+use crate::numbers::fitted;
 use calculus::code::MethodEntry;
 use calculus::values::Value;
 use machine::machine::Machine;
 use machine_model::state::{Cell, Frame, Progress, Report};
 use store::store::Store;
 
-/// Puts in what a line says, if it is such a line.
-pub fn put_in<S: Store>(
-    machine: &mut Machine<'_>,
-    store: &mut S,
-    name: &str,
-    numbers: [i64; 6],
-) -> bool {
+/// What a line puts in.
+#[derive(Clone, Copy)]
+pub enum Hand {
+    Cell(Cell),
+    Frame(Frame),
+    /// An object of one method, closed over an environment.
+    Object(MethodEntry, u32),
+    /// Where a running program stands, and its allowance.
+    At(Frame, u32),
+    Holds(Value),
+    Report(Report),
+}
+
+/// The frame of three numbers.
+fn frame(list: i64, next: i64, env: i64) -> Frame {
+    Frame {
+        list: fitted(list),
+        next: fitted(next),
+        env: fitted(env),
+    }
+}
+
+/// The cell of a value, before an environment.
+fn cell(value: Value, parent: i64) -> Cell {
+    Cell {
+        value,
+        parent: fitted(parent),
+    }
+}
+
+/// What a line puts in, if it is such a line.
+pub fn hand_of(name: &str, numbers: [i64; 6]) -> Option<Hand> {
     let [a, b, c, d, e, f] = numbers;
     match name {
-        "cell" => {
-            let _ = machine.cells.push(Cell {
-                value: Value::Figure(a),
-                parent: word(b),
-            });
-            true
+        "cell" => Some(Hand::Cell(cell(Value::Figure(a), b))),
+        "cell-at" => Some(Hand::Cell(cell(Value::Location(fitted(a)), b))),
+        "frame" => Some(Hand::Frame(frame(a, b, c))),
+        "make" => Some(Hand::Object(
+            MethodEntry {
+                label: fitted(a),
+                list: fitted(b),
+            },
+            fitted(c),
+        )),
+        "at" => Some(Hand::At(frame(a, b, c), fitted(d))),
+        "holds" => Some(Hand::Holds(Value::Figure(a))),
+        "holds-at" => Some(Hand::Holds(Value::Location(fitted(a)))),
+        "report" => Some(Hand::Report(Report {
+            transitions: fitted(a),
+            objects: fitted(b),
+            selects: fitted(c),
+            updates: fitted(d),
+            clones: fitted(e),
+            lets: fitted(f),
+        })),
+        _ => None,
+    }
+}
+
+/// Puts it in.
+pub fn put_in<S: Store>(machine: &mut Machine<'_>, store: &mut S, hand: Hand) {
+    let state = &mut machine.state;
+    match hand {
+        Hand::Cell(cell) => {
+            let _ = state.cells.push(cell);
         }
-        "cell-at" => {
-            let _ = machine.cells.push(Cell {
-                value: Value::Location(word(a)),
-                parent: word(b),
-            });
-            true
+        Hand::Frame(frame) => {
+            let _ = state.frames.push(frame);
         }
-        "frame" => {
-            let _ = machine.frames.push(Frame {
-                list: word(a),
-                next: word(b),
-                env: word(c),
-            });
-            true
+        Hand::Object(method, env) => {
+            let _ = store.make(&[method], env);
         }
-        "make" => {
-            let _ = store.make(
-                &[MethodEntry {
-                    label: label(a),
-                    list: word(b),
-                }],
-                word(c),
-            );
-            true
+        Hand::At(at, allowance) => {
+            state.registers.at = at;
+            state.registers.allowance = allowance;
+            state.registers.progress = Progress::Running;
         }
-        "at" => {
-            machine.registers.at = Frame {
-                list: word(a),
-                next: word(b),
-                env: word(c),
-            };
-            machine.registers.allowance = word(d);
-            machine.registers.progress = Progress::Running;
-            true
-        }
-        "holds" => {
-            machine.registers.accumulator = Some(Value::Figure(a));
-            true
-        }
-        "holds-at" => {
-            machine.registers.accumulator = Some(Value::Location(word(a)));
-            true
-        }
-        "report" => {
-            machine.registers.report = Report {
-                transitions: long(a),
-                objects: word(b),
-                selects: word(c),
-                updates: word(d),
-                clones: word(e),
-                lets: word(f),
-            };
-            true
-        }
-        _ => false,
+        Hand::Holds(value) => state.registers.accumulator = Some(value),
+        Hand::Report(report) => state.registers.report = report,
     }
 }

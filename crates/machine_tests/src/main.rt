@@ -11,26 +11,18 @@ mod hands;
 mod numbers;
 mod saying;
 
-use areas::{Area, fill};
+use areas::{Area, entry_of};
 use calculus::values::Value;
-use calls::call;
+use calls::{call_of, make_call};
 use flat_store::table::FlatStore;
-use hands::put_in;
+use hands::{hand_of, put_in};
 use machine::machine::Machine;
 use machine_model::state::{Cell, Frame};
-use numbers::{numbers_of, word};
+use numbers::{fitted, numbers_of};
 use std::{fs, io};
-use store::closures::{Closure, Method};
+use store::closures::Method;
 use store::layout::Span;
 use store::store::Store;
-
-/// The first word of a line.
-fn word_of(line: &str) -> &str {
-    for word in line.split_whitespace() {
-        return word;
-    }
-    ""
-}
 
 /// Carries out a line.
 fn obey<S: Store>(
@@ -40,35 +32,38 @@ fn obey<S: Store>(
     store: &mut S,
     line: &str,
 ) -> io::Result<()> {
-    let name = word_of(line);
+    let name = line.split_whitespace().next().unwrap_or("");
     if name == "#" {
         return println!(rt; "{line}");
     }
     let numbers = numbers_of(line);
-    if fill(area, name, numbers)? || put_in(machine, store, name, numbers) {
-        return Ok(());
+    if let Some(entry) = entry_of(name, numbers) {
+        area.enter(entry)?;
+    } else if let Some(hand) = hand_of(name, numbers) {
+        put_in(machine, store, hand);
+    } else if let Some(call) = call_of(name, numbers) {
+        make_call(rt, area, machine, store, call)?;
     }
-    call(rt, area, machine, store, name, numbers)
+    Ok(())
+}
+
+/// The length of an area.
+fn length(number: i64) -> usize {
+    fitted::<u32>(number) as usize
 }
 
 /// Plays the lines of a case.
 fn play(rt: &HostRuntime, block: &str) -> io::Result<()> {
     let heap = rt.alloc();
-    let lengths = numbers_of(block);
-    let mut cells = vec![in heap; Cell {
+    let [cells, frames, objects, methods, ..] = numbers_of(block);
+    let nothing = Cell {
         value: Value::Figure(0),
-        parent: 0
-    }; word(lengths[0]) as usize]?;
-    let mut frames = vec![in heap; Frame {
-        list: 0,
-        next: 0,
-        env: 0
-    }; word(lengths[1]) as usize]?;
-    let mut objects = vec![in heap; Span { first: 0, size: 0 }; word(lengths[2]) as usize]?;
-    let mut methods = vec![in heap; Method {
-        label: 0,
-        closure: Closure { list: 0, env: 0 }
-    }; word(lengths[3]) as usize]?;
+        parent: 0,
+    };
+    let mut cells = vec![in heap; nothing; length(cells)]?;
+    let mut frames = vec![in heap; Frame::default(); length(frames)]?;
+    let mut objects = vec![in heap; Span::default(); length(objects)]?;
+    let mut methods = vec![in heap; Method::default(); length(methods)]?;
     let mut store = FlatStore::new(&mut objects, &mut methods);
     let mut machine = Machine::new(&mut cells, &mut frames);
     let mut area = Area::new(heap);

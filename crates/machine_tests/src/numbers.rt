@@ -1,39 +1,21 @@
 //! The numbers of a line.
 
-/// A number of 32 bits.
-pub fn word(number: i64) -> u32 {
-    if number >= 0 && number < 4_294_967_296 {
-        number as u32
-    } else {
-        0
-    }
-}
-
-/// A label.
-pub fn label(number: i64) -> u16 {
-    if number >= 0 && number < 65_536 {
-        number as u16
-    } else {
-        0
-    }
-}
-
-/// A count of transitions.
-pub fn long(number: i64) -> u64 {
-    if number >= 0 { number as u64 } else { 0 }
+/// A number where it fits the type, and else 0.
+pub fn fitted<T: TryFrom<i64> + Default>(number: i64) -> T
+where
+    T::Error: Drop,
+{
+    T::try_from(number).unwrap_or_default()
 }
 
 /// The numbers after the first word of a line.
 pub fn numbers_of(line: &str) -> [i64; 6] {
     let mut numbers = [0; 6];
-    let mut count = 0;
-    for word in line.split_whitespace() {
-        if let Ok(number) = word.parse::<i64>() {
-            if count < 6 {
-                numbers[count] = number;
-                count += 1;
-            }
-        }
+    let read = line
+        .split_whitespace()
+        .filter_map(|word| word.parse::<i64>().ok());
+    for (number, value) in numbers.iter_mut().zip(read) {
+        *number = value;
     }
     numbers
 }

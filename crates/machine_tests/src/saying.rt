@@ -1,39 +1,10 @@
 //! Answers as text.
-use calculus::refusals::{Place, Refusal};
-use calculus::values::Value;
+use answers::answers::{PlaceText, ReportText};
+use calculus::refusals::Refusal;
 use machine_model::answers::{Fault, RunAnswer};
-use machine_model::state::Report;
+use signs::write::ValueText;
 use std::io;
 use store::store::Store;
-
-fn say_value(rt: &HostRuntime, value: Value) -> io::Result<()> {
-    match value {
-        Value::Figure(figure) => print!(rt; " {figure}"),
-        Value::Location(location) => print!(rt; " @{location}"),
-    }
-}
-
-fn say_place(rt: &HostRuntime, place: Place) -> io::Result<()> {
-    match place {
-        Place::Whole => print!(rt; " at 0"),
-        Place::Row(row) => print!(rt; " at {row}"),
-        Place::Operation { list, operation } => print!(rt; " at list {list} operation {operation}"),
-    }
-}
-
-fn say_report(rt: &HostRuntime, report: Report) -> io::Result<()> {
-    let Report {
-        transitions,
-        objects,
-        selects,
-        updates,
-        clones,
-        lets,
-    } = report;
-    println!(rt;
-        ", transitions {transitions} object {objects} select {selects} update {updates} clone {clones} let {lets}"
-    )
-}
 
 /// The store's fault inside.
 fn say_inside(rt: &HostRuntime, fault: Fault) -> io::Result<()> {
@@ -50,13 +21,13 @@ pub fn say_run(rt: &HostRuntime, answer: RunAnswer) -> io::Result<()> {
     match answer {
         RunAnswer::NotRunning => println!(rt; "  18"),
         RunAnswer::Done { value, report } => {
-            print!(rt; "  done")?;
-            say_value(rt, value)?;
-            say_report(rt, report)
+            let value = ValueText(value);
+            let report = ReportText(report);
+            println!(rt; "  done {value}, {report}")
         }
         RunAnswer::Paused { report } => {
-            print!(rt; "  paused")?;
-            say_report(rt, report)
+            let report = ReportText(report);
+            println!(rt; "  paused, {report}")
         }
         RunAnswer::Refused {
             fault,
@@ -64,10 +35,11 @@ pub fn say_run(rt: &HostRuntime, answer: RunAnswer) -> io::Result<()> {
             report,
         } => {
             let number = fault.number();
-            print!(rt; "  {number}")?;
-            say_place(rt, place)?;
+            let place = PlaceText(place);
+            let report = ReportText(report);
+            print!(rt; "  {number} at {place}")?;
             say_inside(rt, fault)?;
-            say_report(rt, report)
+            println!(rt; ", {report}")
         }
     }
 }
@@ -77,9 +49,8 @@ pub fn say_start(rt: &HostRuntime, answer: Result<(), Refusal>) -> io::Result<()
         Ok(()) => println!(rt; "  started"),
         Err(refusal) => {
             let number = refusal.number();
-            print!(rt; "  {number}")?;
-            say_place(rt, refusal.place())?;
-            println!(rt; "")
+            let place = PlaceText(refusal.place());
+            println!(rt; "  {number} at {place}")
         }
     }
 }
@@ -87,14 +58,12 @@ pub fn say_start(rt: &HostRuntime, answer: Result<(), Refusal>) -> io::Result<()
 /// The methods of an object.
 fn say_object<S: Store>(rt: &HostRuntime, store: &S, location: u32) -> io::Result<()> {
     print!(rt; "  object {location}:")?;
-    if let Ok(size) = store.size(location) {
-        for place in 0..size {
-            if let Ok(method) = store.method_at(location, place) {
-                let label = method.label;
-                let list = method.closure.list;
-                let env = method.closure.env;
-                print!(rt; " {label}=list {list} over {env}")?;
-            }
+    for place in 0..store.size(location).unwrap_or(0) {
+        if let Ok(method) = store.method_at(location, place) {
+            let label = method.label;
+            let list = method.closure.list;
+            let env = method.closure.env;
+            print!(rt; " {label}=list {list} over {env}")?;
         }
     }
     println!(rt; "")

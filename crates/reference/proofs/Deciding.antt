@@ -222,15 +222,15 @@ final_decides Λ A n i κ c a f =
 -- no answer where a frame is to close
 no_frame : {Λ : Limits} {A n j : ℕ} {ks : List Kind} {c : Config} {a : RunAnswer} (v : Value) (R : Context) (Rs : List Context) (σ : Store Term) (θ : RefTrial) (m : ℕ) → Ends Λ A n j ks c a →
     c ≡ config (framed (val v) (R ∷ Rs)) σ θ m → ◌≡◌ {A = Option Verdict} (Some (finishes v)) (Some (verdict a)) → ⊥
-no_frame v R Rs σ θ m (ends_done p q) e d = let z : ◌≡◌ {A = ℕ} 0 1 = cc in omega arith
-no_frame v R Rs σ θ m (ends_20 p h) e d = let z : ◌≡◌ {A = ℕ} 0 1 = cc in omega arith
-no_frame v R Rs σ θ m (ends_21 p h) e d = let z : ◌≡◌ {A = ℕ} 0 1 = cc in omega arith
-no_frame v R Rs σ θ m (ends_paused p k σ' x q) e d = let z : ◌≡◌ {A = ℕ} 0 1 = cc in omega arith
-no_frame v R Rs σ θ m (ends_22 p k σ' x l q) e d = let z : ◌≡◌ {A = ℕ} 0 1 = cc in omega arith
-no_frame v R Rs σ θ m (ends_23 p k σ' x o f) e d = let z : ◌≡◌ {A = ℕ} 0 1 = cc in omega arith
-no_frame v R Rs σ θ m (ends_24 p k σ' x o f g) e d = let z : ◌≡◌ {A = ℕ} 0 1 = cc in omega arith
-no_frame v R Rs σ θ m (ends_25 p k σ' x o f) e d = let z : ◌≡◌ {A = ℕ} 0 1 = cc in omega arith
-no_frame v R Rs σ θ m (ends_26 p k σ' x o f g) e d = let z : ◌≡◌ {A = ℕ} 0 1 = cc in omega arith
+no_frame v R Rs σ θ m (ends_done p q) e d = cc
+no_frame v R Rs σ θ m (ends_20 p h) e d = cc
+no_frame v R Rs σ θ m (ends_21 p h) e d = cc
+no_frame v R Rs σ θ m (ends_paused p k σ' x q) e d = cc
+no_frame v R Rs σ θ m (ends_22 p k σ' x l q) e d = cc
+no_frame v R Rs σ θ m (ends_23 p k σ' x o f) e d = cc
+no_frame v R Rs σ θ m (ends_24 p k σ' x o f g) e d = cc
+no_frame v R Rs σ θ m (ends_25 p k σ' x o f) e d = cc
+no_frame v R Rs σ θ m (ends_26 p k σ' x o f g) e d = cc
 
 not_closing : (Λ : Limits) (A n i κ : ℕ) (v : Value) (R : Context) (Rs : List Context) (σ : Store Term) (θ : RefTrial) (m : ℕ) (a : RunAnswer) → Final Λ A n i κ [] (config (framed (val v) (R ∷ Rs)) σ θ m) a → ⊥
 not_closing Λ A n i κ v R Rs σ θ m a f = no_frame v R Rs σ θ m f.answers refl (decided_by f.answers)
@@ -312,10 +312,10 @@ not_19 : (f g : Fault) (n : ℕ) → fault_number f ≡ n → (n ≡ 19 → ⊥)
 not_19 f g n p q e h = let z : f ≡ g = cc in q (sym p ∙ ap fault_number z ∙ h)
 
 astray_not : {Λ : Limits} {A n j : ℕ} {ks : List Kind} {c : Config} {a : RunAnswer} → Ends Λ A n j ks c a → (f : Fault) → verdict a ≡ faults f → fault_number f ≡ 19 → ⊥
-astray_not (ends_done p q) f e h = let z : ◌≡◌ {A = ℕ} 0 1 = cc in omega arith
+astray_not (ends_done p q) f e h = cc
 astray_not (ends_20 p x) f e h = not_19 fault.FigureTaken f 20 refl (λ z. omega arith) e h
 astray_not (ends_21 p x) f e h = not_19 fault.LabelMissing f 21 refl (λ z. omega arith) e h
-astray_not (ends_paused p k σ' x q) f e h = let z : ◌≡◌ {A = ℕ} 0 1 = cc in omega arith
+astray_not (ends_paused p k σ' x q) f e h = cc
 astray_not (ends_22 p k σ' x l q) f e h = not_19 fault.AllowanceSpent f 22 refl (λ z. omega arith) e h
 astray_not (ends_23 p k σ' x o q) f e h = not_19 fault.CellsFull f 23 refl (λ z. omega arith) e h
 astray_not (ends_24 p k σ' x o q g) f e h = not_19 fault.StackFull f 24 refl (λ z. omega arith) e h

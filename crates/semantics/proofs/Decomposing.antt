@@ -106,7 +106,7 @@ redex_reduces R r σ k a σ' h (fires j b ρ rule) = fired (rule_does r rule)
   where
     fired : contract r σ ≡ to j b ρ → Reduces k (plug R (term_of r)) σ (plug R a) σ'
     fired g = let p : j ≡ k = cc in let q : b ≡ a = cc in let s : ρ ≡ σ' = cc in subst₃ (λ i x τ. Reduces i (plug R (term_of r)) σ (plug R x) τ) p q s (reduces R rule)
-redex_reduces R r σ k a σ' h (idles g y) = let z : ◌≡◌ {A = ℕ} 0 1 = cc in absurd (omega arith)
+redex_reduces R r σ k a σ' h (idles g y) = cc
 
 pub reduction_is_found : ReductionIsFound
 reduction_is_found k t σ t' σ' = (λ p. reduction_found p, found_reduces)

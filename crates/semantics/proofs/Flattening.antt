@@ -1,5 +1,5 @@
 -- The machine on plain lists runs as the machine on trees.
-use Rattle.std.proofs.Common.{slice_get, ◌≡◌, ℕ, ◌↔◌, List, [], ◌∷◌, ◌++◌, map, length, Some, None, Option, sym, refl, ap, ◌∙◌, subst, ap₂, subst₂, arith}
+use Rattle.std.proofs.Common.{slice_get, ◌≡◌, ℕ, ◌↔◌, List, [], ◌∷◌, ◌++◌, map, length, Some, None, Option, sym, refl, ap, ◌∙◌, subst, ap₂, subst₂}
 use lib.ListN.{length-map}
 use Rattle.calculus.specs.declared.values.Value.{Value}
 use Rattle.calculus.specs.declared.values.Value.TheVariants.{Figure, Location}
@@ -166,8 +166,8 @@ record TreeMove (x : Label) (S : State) (s : TreeStore) (S' : ListState) (s' : L
   stores : flat_store next_store ≡ s'
 
 unflat_step : (x : Label) (S : State) (s : TreeStore) (S' : ListState) (s' : ListStore) (n : Next State TreeStore) → step S s ≡ n → flat_next n ≡ goes x S' s' → TreeMove x S s S' s'
-unflat_step x S s S' s' halts p q = let z : ◌≡◌ {A = ℕ} 0 1 = cc in absurd (omega arith)
-unflat_step x S s S' s' blocks p q = let z : ◌≡◌ {A = ℕ} 0 1 = cc in absurd (omega arith)
+unflat_step x S s S' s' halts p q = cc
+unflat_step x S s S' s' blocks p q = cc
 unflat_step x S s S' s' (goes y T u) p q =
     let e : y ≡ x = cc in
     record { next_state = T; next_store = u; move = subst (λ z. Transition z S s T u) e ((step_computes y S s T u).1 p); states = cc; stores = cc }

@@ -1,5 +1,5 @@
 -- Stores: what is found where, what holds of each body, and what becomes of a store with f of each body.
-use Rattle.std.proofs.Common.{slice_get, ◌≡◌, ℕ, zero, suc, ◌<◌, Bool, true, false, cond, eqb, ◌⊎◌, List, [], ◌∷◌, ◌++◌, map, length, Some, None, Option, sym, refl, ap, ◌∙◌, subst, inl, inr, le_of_suc-le-suc, not-suc-le-zero, arith}
+use Rattle.std.proofs.Common.{slice_get, ◌≡◌, ℕ, zero, suc, ◌<◌, Bool, true, false, cond, eqb, ◌⊎◌, List, [], ◌∷◌, ◌++◌, map, length, Some, None, Option, sym, refl, ap, ◌∙◌, subst, inl, inr, le_of_suc-le-suc, not-suc-le-zero}
 use Rattle.calculus.specs.Places.{if_some}
 use Rattle.semantics.specs.Objects.{labelled, Object, Store, find, replace, method_at, with_method, AllInObject, AllInStore, relabel, map_store}
 
@@ -17,12 +17,12 @@ module _ {X : Type 0} where
 
   pub object_missing : (s : Store X) (n : ℕ) → slice_get s n ≡ None → n < length s → ⊥
   object_missing [] n h i = not-suc-le-zero i
-  object_missing (o ∷ s) zero h i = let z : ◌≡◌ {A = ℕ} 0 1 = cc in omega arith
+  object_missing (o ∷ s) zero h i = cc
   object_missing (o ∷ s) (suc n) h i = object_missing s n h (le_of_suc-le-suc i)
 
 module _ {X : Type 0} (P : X → Type 0) where
   find_has : (o : Object X) (l : ℕ) (x : X) → AllInObject P o → find o l ≡ Some x → P x
-  find_has [] l x p h = let z : ◌≡◌ {A = ℕ} 0 1 = cc in absurd (omega arith)
+  find_has [] l x p h = cc
   find_has (labelled l' y ∷ o) l x p h = pick (eqb l' l) (find_has o l x p.1) h
     where
       pick : (b : Bool) → (find o l ≡ Some x → P x) → cond b (Some y) (find o l) ≡ Some x → P x
@@ -38,12 +38,12 @@ module _ {X : Type 0} (P : X → Type 0) where
       pick false q = (p.0, q)
 
   pub method_has : (s : Store X) (n l : ℕ) (x : X) → AllInStore P s → method_at s n l ≡ Some x → P x
-  method_has [] n l x p h = let z : ◌≡◌ {A = ℕ} 0 1 = cc in absurd (omega arith)
+  method_has [] n l x p h = cc
   method_has (o ∷ s) zero l x p h = find_has o l x p.0 h
   method_has (o ∷ s) (suc n) l x p h = method_has s n l x p.1 h
 
   pub object_has : (s : Store X) (n : ℕ) (o : Object X) → AllInStore P s → slice_get s n ≡ Some o → AllInObject P o
-  object_has [] n o p h = let z : ◌≡◌ {A = ℕ} 0 1 = cc in absurd (omega arith)
+  object_has [] n o p h = cc
   object_has (q ∷ s) zero o p h = let e : q ≡ o = cc in subst (AllInObject P) e p.0
   object_has (q ∷ s) (suc n) o p h = object_has s n o p.1 h
 

@@ -1,5 +1,5 @@
 -- Every state of the machine makes a transition, is finished, or is blocked with a stuck term.
-use Rattle.std.proofs.Common.{slice_get, ◌≡◌, ℕ, zero, suc, ◌+◌, List, [], ◌∷◌, ◌++◌, map, length, Some, None, Option, sym, refl, ap, ◌∙◌, subst, arith}
+use Rattle.std.proofs.Common.{slice_get, ◌≡◌, ℕ, zero, suc, ◌+◌, List, [], ◌∷◌, ◌++◌, map, length, Some, None, Option, sym, refl, ap, ◌∙◌, subst}
 use mathlib.Core.Path.{subst₃}
 use Rattle.calculus.specs.declared.values.Value.{Value}
 use Rattle.calculus.specs.declared.values.Value.TheVariants.{Figure, Location}
@@ -94,10 +94,10 @@ finished_halts : (S : State) (s : TreeStore) (v : Value) → Finished S v → st
 finished_halts S s v f = ap (λ T. step T s) f.1
 
 finished_stays : (S : State) (s : TreeStore) (v : Value) → Finished S v → (x : Label) (S' : State) (s' : TreeStore) → step S s ≡ goes x S' s' → ⊥
-finished_stays S s v f x S' s' p = let q = finished_halts S s v f in let z : ◌≡◌ {A = ℕ} 0 1 = cc in omega arith
+finished_stays S s v f x S' s' p = let q = finished_halts S s v f in cc
 
 blocked_stays : (S : State) (s : TreeStore) → step S s ≡ blocks → (x : Label) (S' : State) (s' : TreeStore) → step S s ≡ goes x S' s' → ⊥
-blocked_stays S s q x S' s' p = let z : ◌≡◌ {A = ℕ} 0 1 = cc in omega arith
+blocked_stays S s q x S' s' p = cc
 
 -- a step that is computed is a transition
 step_transition : (x : Label) (S : State) (s : TreeStore) (S' : State) (s' : TreeStore) → Status S s → step S s ≡ goes x S' s' → Transition x S s S' s'
@@ -120,7 +120,7 @@ pub data Rested (S : State) (s : TreeStore) : Type 0 where
 
 blocks_blocked : (S : State) (s : TreeStore) → step S s ≡ blocks → Blocked S s
 blocks_blocked S s p = record {
-  unfinished = λ v f. let q = finished_halts S s v f in let z : ◌≡◌ {A = ℕ} 0 1 = cc in omega arith;
+  unfinished = λ v f. let q = finished_halts S s v f in cc;
   no_transition = λ x S' s' t. blocked_stays S s p x S' s' (transition_steps t);
 }
 
@@ -128,7 +128,7 @@ blocks_blocked S s p = record {
 pub rested_settled : (S : State) (s : TreeStore) → Rested S s → Settled S s
 rested_settled S s (at_end v f) q S' s' t = finished_stays S s v f (τ q) S' s' (transition_steps t)
 rested_settled S s (at_fault b h) q S' s' t = b.no_transition (τ q) S' s' t
-rested_settled S s (at_reduction k T u r) q S' s' t = let e = (machine_deterministic (τ q) (β k) S s S' s' T u t r).0 in let z : ◌≡◌ {A = ℕ} 0 1 = cc in omega arith
+rested_settled S s (at_reduction k T u r) q S' s' t = let e = (machine_deterministic (τ q) (β k) S s S' s' T u t r).0 in cc
 
 pub data Due (S : State) (s : TreeStore) : Type 0 where
   silent : (q : Silent) (S' : State) (s' : TreeStore) → Transition (τ q) S s S' s' → Due S s

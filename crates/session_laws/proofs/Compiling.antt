@@ -26,7 +26,7 @@ mutual
   pub fits_source : (t : Term) (d n : ℕ) → fits t d n ≡ true → Static t × Closed n t
   fits_source (var i) d n h = let p = both (leb d 200) _ h in let q = both (leb 1 i) (leb i n) p.1 in (tt, (leb-true 1 i q.0, leb-true i n q.1))
   fits_source (val (Figure k)) d n h = (tt, tt)
-  fits_source (val (Location l)) d n h = let z : ◌≡◌ {A = ℕ} 0 1 = cc in absurd (omega arith)
+  fits_source (val (Location l)) d n h = cc
   fits_source (object ms) d n h = let p = both (leb d 200) _ h in let q = both (leb (many ms) 64) _ p.1 in methods_source ms (d + 1) n [] q.1
   fits_source (select a l) d n h = let p = both (leb d 200) _ h in fits_source a (d + 1) n p.1
   fits_source (update a l b) d n h =
@@ -53,7 +53,7 @@ judged_row None p x e h later = later h
 
 walk_rows : (rows : List Row) (p : ℕ) (ws : List Want) (e : Refusal) → walk rows p ws ≡ Some e → (g : RowFault) × (q : ℕ) × (e ≡ AtRow g q)
 unfolding walk
-walk_rows [] p [] e h = let z : ◌≡◌ {A = ℕ} 0 1 = cc in absurd (omega arith)
+walk_rows [] p [] e h = cc
 walk_rows [] p (w ∷ ws) e h = at_row row_fault.Ends p e h
 walk_rows (r ∷ rs) p [] e h = at_row row_fault.Left p e h
 walk_rows (r ∷ rs) p (w ∷ ws) e h = judged_row (judge r w) p _ e h (walk_rows rs (p + 1) (follows r w ++ ws) e)

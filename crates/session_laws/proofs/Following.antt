@@ -47,7 +47,7 @@ depth_one : (x : Label) (xs : List Label) (S : tree.State) (σ : TreeStore) (S�
     (betas xs ≡ [] → n ≤ length (waiting (reference S₁))) → n ≤ length (waiting (reference S))
 depth_one (τ returning) xs S σ S₁ σ₁ t q n g = let k = g q in omega (arith, close_depth (silent_mirrors t).0)
 depth_one (τ loading) xs S σ S₁ σ₁ t q n g = let k = g q in omega (arith, ap (λ F. length (waiting F)) (silent_mirrors t).0)
-depth_one (β k) xs S σ S₁ σ₁ t q n g = let z : ◌≡◌ {A = ℕ} 0 1 = cc in absurd (omega arith)
+depth_one (β k) xs S σ S₁ σ₁ t q n g = cc
 
 silent_depth : {xs : List Label} {S : tree.State} {σ : TreeStore} {S' : tree.State} {σ' : TreeStore} → Run xs S σ S' σ' → betas xs ≡ [] → length (waiting (reference S')) ≤ length (waiting (reference S))
 silent_depth ends q = omega arith
@@ -60,7 +60,7 @@ module _ (N : ℕ) (θ : RefTrial) (n : ℕ) (ks : List Kind) (c : Config) where
       let m = silent_mirrors t in closing m.0 (subst (λ y. Moves N ks (config (reference S₁) y θ n) c) (sym m.1) (g q))
   moves_one (τ loading) xs S σ S₁ σ₁ t q g =
       let m = silent_mirrors t in subst₂ (λ F y. Moves N ks (config F y θ n) c) (sym m.0) (sym m.1) (g q)
-  moves_one (β k) xs S σ S₁ σ₁ t q g = let z : ◌≡◌ {A = ℕ} 0 1 = cc in absurd (omega arith)
+  moves_one (β k) xs S σ S₁ σ₁ t q g = cc
 
   silent_moves : {xs : List Label} {S : tree.State} {σ : TreeStore} {S' : tree.State} {σ' : TreeStore} → Run xs S σ S' σ' → betas xs ≡ [] →
       Moves N ks (config_at S' σ' θ n) c → Moves N ks (config_at S σ θ n) c
@@ -96,8 +96,8 @@ cells_opens letting h n = refl
 
 room_of : (b₁ b₂ : Bool) (f g : Fault) → ◌≡◌ {A = Option Fault} (cond b₁ (cond b₂ None (Some f)) (Some g)) None → (b₁ ≡ true) × (b₂ ≡ true)
 room_of true true f g h = (refl, refl)
-room_of true false f g h = let z : ◌≡◌ {A = ℕ} 0 1 = cc in absurd (omega arith)
-room_of false b₂ f g h = let z : ◌≡◌ {A = ℕ} 0 1 = cc in absurd (omega arith)
+room_of true false f g h = cc
+room_of false b₂ f g h = cc
 
 module _ (T : Text) (Λ : Limits) (A : ℕ) where
   holds_settled : {s : State} {m : Meaning} {S : tree.State} {σ : TreeStore} {θ : RefTrial} {ks : List Kind} (z : Settling T s (transitions s) S σ (settled T s)) → Holds T Λ A s m S σ θ ks →
@@ -264,7 +264,7 @@ module _ (T : Text) (Λ : Limits) (A : ℕ) where
     adds_end : (k : Kind) (o : Object) (ρ : Reduction T s m S σ (adds k o)) → Adds k → 0 < left → 0 < s.registers.allowance → (b₁ b₂ : Bool) → ltb (length m.objects) m.object_limit ≡ b₁ →
         leb (total m.objects + length o) m.method_limit ≡ b₂ → (f : Fault) (x : Place) → ◌≡◌ {A = Option Fault} (cond b₁ (cond b₂ None (Some (fault.Store MethodsFull))) (Some (fault.Store ObjectsFull))) (Some f) →
         Ending (run.Refused f x s.registers.report)
-    adds_end k o ρ a p q true true e₁ e₂ f x e = let z : ◌≡◌ {A = ℕ} 0 1 = cc in absurd (omega arith)
+    adds_end k o ρ a p q true true e₁ e₂ f x e = cc
     adds_end k o ρ a p q true false e₁ e₂ f x e =
         let z : fault.Store MethodsFull ≡ f = cc in
         let l₁ = ltb-true (length m.objects) m.object_limit e₁ in
@@ -280,7 +280,7 @@ module _ (T : Text) (Λ : Limits) (A : ℕ) where
     enters_end : (k : Kind) (v : Value) (y l : ℕ) (ρ : Reduction T s m S σ (enters k v y l)) → Opens k → 0 < left → 0 < s.registers.allowance → (b₁ b₂ : Bool) → ltb (length s.cells) s.cell_room ≡ b₁ →
         ltb (length s.frames) s.frame_room ≡ b₂ → (f : Fault) (x : Place) → ◌≡◌ {A = Option Fault} (cond b₁ (cond b₂ None (Some fault.StackFull)) (Some fault.CellsFull)) (Some f) →
         Ending (run.Refused f x s.registers.report)
-    enters_end k v y l ρ a p q true true e₁ e₂ f x e = let z : ◌≡◌ {A = ℕ} 0 1 = cc in absurd (omega arith)
+    enters_end k v y l ρ a p q true true e₁ e₂ f x e = cc
     enters_end k v y l ρ a p q true false e₁ e₂ f x e =
         let z : fault.StackFull ≡ f = cc in
         let l₁ = ltb-true (length s.cells) s.cell_room e₁ in
@@ -297,7 +297,7 @@ module _ (T : Text) (Λ : Limits) (A : ℕ) where
     limit_end : (r : Ready) (ρ : Reduction T s m S σ r) → RightKind r → 0 < left → 0 < s.registers.allowance → (f : Fault) (x : Place) → hinders s m r ≡ Some f → Ending (run.Refused f x s.registers.report)
     limit_end (adds k o) ρ a p q f x e = adds_end k o ρ a p q (ltb (length m.objects) m.object_limit) (leb (total m.objects + length o) m.method_limit) refl refl f x e
     limit_end (enters k v y l) ρ a p q f x e = enters_end k v y l ρ a p q (ltb (length s.cells) s.cell_room) (ltb (length s.frames) s.frame_room) refl refl f x e
-    limit_end (alters l y c) ρ a p q f x e = let z : ◌≡◌ {A = ℕ} 0 1 = cc in absurd (omega arith)
+    limit_end (alters l y c) ρ a p q f x e = cc
 
     pub ends_so : (c : Stop) → Stopped T left s m S σ c → Ending (answered c s)
     ends_so _ (at_value vs v e) =

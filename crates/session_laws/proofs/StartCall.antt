@@ -72,9 +72,9 @@ module _ (s : Session) (R : Reference) (a : Agrees s R) where
   start_agrees p vs = start_by_progress t.registers.progress p vs ∙ ap (λ π. start_in π R p vs) a.progress_is
 
   not_known : (π : Progress) (p : ℕ) (vs : List Value) → givens_of T p ≡ None → model.start_in π T t m p vs ≡ Ok tt → ⊥
-  not_known Unused p vs h e = let w : start_for None (length m.objects) t vs ≡ Ok tt = ap (λ x. start_for x (length m.objects) t vs) (sym h) ∙ e in let z : ◌≡◌ {A = ℕ} 0 1 = cc in omega arith
-  not_known Running p vs h e = let z : ◌≡◌ {A = ℕ} 0 1 = cc in omega arith
-  not_known Ended p vs h e = let w : start_for None (length m.objects) t vs ≡ Ok tt = ap (λ x. start_for x (length m.objects) t vs) (sym h) ∙ e in let z : ◌≡◌ {A = ℕ} 0 1 = cc in omega arith
+  not_known Unused p vs h e = let w : start_for None (length m.objects) t vs ≡ Ok tt = ap (λ x. start_for x (length m.objects) t vs) (sym h) ∙ e in cc
+  not_known Running p vs h e = cc
+  not_known Ended p vs h e = let w : start_for None (length m.objects) t vs ≡ Ok tt = ap (λ x. start_for x (length m.objects) t vs) (sym h) ∙ e in cc
 
   begins : (p : ℕ) (vs : List Value) (n : ℕ) → n < 2 ^ 32 → start_result T t m p vs ≡ Ok tt → (x : Option Source) → Known T p x →
       Agrees (with_machine s (begun t p vs n) m) (start_with x R vs n)

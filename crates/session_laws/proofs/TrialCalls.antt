@@ -214,12 +214,12 @@ module _ (s : Session) (R : Reference) (a : Agrees s R) where
   says_opened : (k : ℕ) (b c : Bool) → c ≡ true →
       ◌≡◌ {A = Result Unit (Token × TrialFault)} (back k (cond b None (Some WrongToken))) (cond b (cond c (Ok tt) (Err (token k, Overrun))) (Err (token k, WrongToken)))
   says_opened k true true h = refl
-  says_opened k true false h = let z : ◌≡◌ {A = ℕ} 0 1 = cc in absurd (omega arith)
+  says_opened k true false h = cc
   says_opened k false c h = refl
 
   says_overrun : (k : ℕ) (b c : Bool) → c ≡ false →
       ◌≡◌ {A = Result Unit (Token × TrialFault)} (back k (cond b (Some Overrun) (Some WrongToken))) (cond b (cond c (Ok tt) (Err (token k, Overrun))) (Err (token k, WrongToken)))
-  says_overrun k true true h = let z : ◌≡◌ {A = ℕ} 0 1 = cc in absurd (omega arith)
+  says_overrun k true true h = cc
   says_overrun k true false h = refl
   says_overrun k false c h = refl
 
