@@ -1,6 +1,5 @@
 -- What stands at a place after a write, and after one entry more.
 use Rattle.std.proofs.Common.{slice_get, ◌≡◌, ℕ, zero, suc, ◌<◌, ◌≤◌, ◌≢◌, List, [], ◌∷◌, ◌++◌, length, take, set, Some, None, refl, ap, arith}
-
 pub use Rattle.std.proofs.lemmas.Option.{slice_get_within as nth_some}
 
 module _ {X : Type 0} where

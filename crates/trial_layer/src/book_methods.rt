@@ -73,7 +73,8 @@ impl Book {
         self.state != TrialState::Closed && self.last == number
     }
 
-    /// Why the trial with this number cannot be put back, if it cannot.
+    /// Why the trial with this number cannot be put back, if it cannot. An `Option` and no `Result`: the layer's own error hands back
+    /// the token beside the fault, so no `?` could pass it on.
     pub fn back_fault(&self, number: u32) -> Option<TrialFault>
         ensures { result ≡ back_fault (trial_of self.now) number }
     {

@@ -76,11 +76,6 @@ fn last_number(rt: HostRuntime) -> Result<(), Fail> {
         },
     };
     assert_eq!(rt; next(&mut layer)?, u32::MAX);
-    match next(&mut layer) {
-        Ok(_) => Err(Fail::new("a trial past the last")),
-        Err(fault) => {
-            assert_eq!(rt; fault.number(), 28);
-            Ok(())
-        },
-    }
+    assert_eq!(rt; next(&mut layer).map_err(TrialFault::number), Err(28));
+    Ok(())
 }

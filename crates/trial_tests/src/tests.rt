@@ -149,10 +149,7 @@ fn kept<S: Store>(layer: &mut TrialLayer<S>, number: u32) -> Option<Result<(), u
 }
 
 // The same of put back, with the number of the token that it hands back. That one is spent on keep, which is refused as well.
-fn put_back_by<S: Store>(
-    layer: &mut TrialLayer<S>,
-    number: u32,
-) -> Option<Result<(), (u32, u32)>> {
+fn put_back_by<S: Store>(layer: &mut TrialLayer<S>, number: u32) -> Option<Result<(), (u32, u32)>> {
     let token = Token::of(number)?;
     Some(match layer.put_back(token) {
         Ok(()) => Ok(()),

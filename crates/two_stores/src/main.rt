@@ -118,7 +118,7 @@ fn main(rt: HostRuntime) -> io::Result<()> {
     small_areas(&rt)?;
     small_and_large(&rt)?;
     for clones in 1..9u32 {
-        for at in 0..clones + 1 {
+        for at in 0..=clones {
             print!(rt; "{clones} clones, update at {at}: chain")?;
             print_alike(&rt, shape_alike(Shape::Chain, clones, at))?;
             print!(rt; ", fan")?;
