@@ -101,6 +101,7 @@ impl Emission<'_, '_> {
                 self.tables.operations[slot] = follower(kind, row, self.counts.contents);
                 next
             }
+            // An update or a let, since no method begins a term.
             _ => {
                 let body = self.emit_term(at + 1, slot - 1);
                 let list = self.counts.contents;
