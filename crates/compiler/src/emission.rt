@@ -5,7 +5,7 @@ ghost use Rattle.calculus.specs.Kinds.{kind_number};
 ghost use Rattle.compiler.specs.Fronts.{front};
 ghost use Rattle.compiler.specs.Area.{area};
 ghost use Rattle.compiler.specs.Emit.{small, leaf_of, follower_of, Ready, ReadyList, ReadyAll, Wrote, WroteList, WroteProgram, WroteAll};
-ghost use Rattle.compiler.specs.Writing.{source, target};
+ghost use Rattle.compiler.specs.Writing.{source, target, GoesOn};
 
 use calculus::code::{Counts, ListEntry, MethodEntry, Operation, Tables};
 use calculus::rows::{Row, RowKind};
@@ -77,8 +77,7 @@ impl Emission<'_, '_> {
     #[cycle(emit_list_emit_methods_emit_term)]
     fn emit_term(&mut self, at: usize, slot: usize) -> usize
         requires { Ready (source self.old) at slot (target self.old) }
-        ensures same_tables { self.new.tables.ghost_name ≡ self.old.tables.ghost_name }
-        ensures same_rows { self.new.rows ≡ self.old.rows }
+        ensures goes { GoesOn self.old self.new }
         ensures next { (at < result) × (result ≤ length self.old.rows.now) }
         ensures wrote { Wrote (source self.old) at slot result (target self.old) (target self.new) }
     {
@@ -116,8 +115,7 @@ impl Emission<'_, '_> {
     fn emit_methods(&mut self, from: usize, first: u32, count: u32) -> usize
         requires ready { ReadyAll (source self.old) from first count (target self.old) }
         requires within { from ≤ length self.old.rows.now }
-        ensures same_tables { self.new.tables.ghost_name ≡ self.old.tables.ghost_name }
-        ensures same_rows { self.new.rows ≡ self.old.rows }
+        ensures goes { GoesOn self.old self.new }
         ensures next { (from ≤ result) × (result ≤ length self.old.rows.now) }
         ensures wrote { WroteAll (source self.old) from first count result (target self.old) (target self.new) }
     {
@@ -138,8 +136,7 @@ impl Emission<'_, '_> {
     #[cycle(emit_list_emit_methods_emit_term)]
     fn emit_list(&mut self, at: usize, mark: u32) -> usize
         requires { ReadyList (source self.old) at (target self.old) }
-        ensures same_tables { self.new.tables.ghost_name ≡ self.old.tables.ghost_name }
-        ensures same_rows { self.new.rows ≡ self.old.rows }
+        ensures goes { GoesOn self.old self.new }
         ensures next { (at < result) × (result ≤ length self.old.rows.now) }
         ensures wrote { WroteList (source self.old) at mark result (target self.old) (target self.new) }
     {

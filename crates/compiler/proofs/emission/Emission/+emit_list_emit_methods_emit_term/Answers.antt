@@ -45,30 +45,29 @@ emit_list-returns-clause-wrote t c =
     wrote_list c.args.self.now.rows.now c.args.at _ c.args.mark (target c.args.self.now) c.front_len-spine.ensures c.emit_term.result _ c.emit_term.ensures.wrote
 
 pub emit_methods-bounds-self-at : goal.emit_methods-bounds-self-at
-emit_methods-bounds-self-at t c = (all_room c.loop-k.self.rows.now c.loop-k.at _ (c.args.count - c.loop-k.k) (target c.loop-k.self) (omega arith) c.loop-k.invariant.4 0).0
+emit_methods-bounds-self-at t c = (all_room c.loop-k.self.rows.now c.loop-k.at _ (c.args.count - c.loop-k.k) (target c.loop-k.self) (omega arith) c.loop-k.invariant.3 0).0
 
 pub emit_methods-emit_list-at-requires : goal.emit_methods-emit_list-at-requires
 emit_methods-emit_list-at-requires t c =
-    let q = ap length (ap (λ r. r.now) c.loop-k.invariant.3) in
-    let lt : c.loop-k.at < length c.loop-k.self.rows.now = (all_room c.loop-k.self.rows.now c.loop-k.at _ (c.args.count - c.loop-k.k) (target c.loop-k.self) (omega arith) c.loop-k.invariant.4 0).0 in
-    (search rules, (all_room c.loop-k.self.rows.now c.loop-k.at _ (c.args.count - c.loop-k.k) (target c.loop-k.self) (omega arith) c.loop-k.invariant.4 _).2)
+    let q = ap length (ap (λ r. r.now) c.loop-k.invariant.2.rows) in
+    let lt : c.loop-k.at < length c.loop-k.self.rows.now = (all_room c.loop-k.self.rows.now c.loop-k.at _ (c.args.count - c.loop-k.k) (target c.loop-k.self) (omega arith) c.loop-k.invariant.3 0).0 in
+    (search rules, (all_room c.loop-k.self.rows.now c.loop-k.at _ (c.args.count - c.loop-k.k) (target c.loop-k.self) (omega arith) c.loop-k.invariant.3 _).2)
 
 pub emit_methods-loop-k-preserved : goal.emit_methods-loop-k-preserved
 emit_methods-loop-k-preserved t c =
-    let g = sym (ap (λ r. r.now) c.emit_list-at.ensures.same_rows) in
+    let g = sym (ap (λ r. r.now) c.emit_list-at.ensures.goes.rows) in
     let q = ap length g in (
       omega (arith, c.emit_list-at.ensures.next.0),
       omega (arith, c.emit_list-at.ensures.next.1),
       search rules,
-      search rules,
-      subst (λ (rows : List Row). ReadyAll (map plain rows) c.emit_list-at.result (c.args.first + (c.loop-k.k + 1)) (c.args.count - (c.loop-k.k + 1)) (target c.emit_list-at.new.self)) g (all_next c.loop-k.self.rows.now c.loop-k.at (c.args.first + c.loop-k.k) (c.args.count - c.loop-k.k) (target c.loop-k.self) (omega arith) _ (c.args.first + (c.loop-k.k + 1)) (c.args.count - (c.loop-k.k + 1)) _ (omega arith) (omega arith) c.emit_list-at.ensures.wrote c.loop-k.invariant.4),
-      subst (λ (rows : List Row). LeftAll (map plain rows) c.args.from c.args.first c.args.count c.emit_list-at.result (c.args.first + (c.loop-k.k + 1)) (c.args.count - (c.loop-k.k + 1)) (target c.args.self.now) (target c.emit_list-at.new.self)) g (left_next c.loop-k.self.rows.now c.loop-k.at (c.args.first + c.loop-k.k) (c.args.count - c.loop-k.k) (target c.loop-k.self) (omega arith) _ (c.args.first + (c.loop-k.k + 1)) (c.args.count - (c.loop-k.k + 1)) _ (omega arith) (omega arith) c.emit_list-at.ensures.wrote c.args.from c.args.first c.args.count (target c.args.self.now) c.loop-k.invariant.5),
+      subst (λ (rows : List Row). ReadyAll (map plain rows) c.emit_list-at.result (c.args.first + (c.loop-k.k + 1)) (c.args.count - (c.loop-k.k + 1)) (target c.emit_list-at.new.self)) g (all_next c.loop-k.self.rows.now c.loop-k.at (c.args.first + c.loop-k.k) (c.args.count - c.loop-k.k) (target c.loop-k.self) (omega arith) _ (c.args.first + (c.loop-k.k + 1)) (c.args.count - (c.loop-k.k + 1)) _ (omega arith) (omega arith) c.emit_list-at.ensures.wrote c.loop-k.invariant.3),
+      subst (λ (rows : List Row). LeftAll (map plain rows) c.args.from c.args.first c.args.count c.emit_list-at.result (c.args.first + (c.loop-k.k + 1)) (c.args.count - (c.loop-k.k + 1)) (target c.args.self.now) (target c.emit_list-at.new.self)) g (left_next c.loop-k.self.rows.now c.loop-k.at (c.args.first + c.loop-k.k) (c.args.count - c.loop-k.k) (target c.loop-k.self) (omega arith) _ (c.args.first + (c.loop-k.k + 1)) (c.args.count - (c.loop-k.k + 1)) _ (omega arith) (omega arith) c.emit_list-at.ensures.wrote c.args.from c.args.first c.args.count (target c.args.self.now) c.loop-k.invariant.4),
     )
 
 pub emit_methods-returns-clause-wrote : goal.emit_methods-returns-clause-wrote
 emit_methods-returns-clause-wrote t c =
-    subst (λ (rows : List Row). WroteAll (map plain rows) c.args.from c.args.first c.args.count c.loop-k.at (target c.args.self.now) (target c.loop-k.self)) (ap (λ r. r.now) c.loop-k.invariant.3)
-    (left_done _ c.args.from c.args.first c.args.count c.loop-k.at _ (c.args.count - c.loop-k.k) (target c.args.self.now) (target c.loop-k.self) (omega arith) c.loop-k.invariant.5)
+    subst (λ (rows : List Row). WroteAll (map plain rows) c.args.from c.args.first c.args.count c.loop-k.at (target c.args.self.now) (target c.loop-k.self)) (ap (λ r. r.now) c.loop-k.invariant.2.rows)
+    (left_done _ c.args.from c.args.first c.args.count c.loop-k.at _ (c.args.count - c.loop-k.k) (target c.args.self.now) (target c.loop-k.self) (omega arith) c.loop-k.invariant.4)
 
 pub emit_term-offset_bounds-self-at : goal.emit_term-offset_bounds-self-at
 emit_term-offset_bounds-self-at t c = let lt = ready_lt c.args.self.now.rows.now _ _ _ c.requires in search rules
@@ -106,7 +105,7 @@ pub emit_term-bounds-self-slot-in_default : goal.emit_term-bounds-self-slot-in_d
 emit_term-bounds-self-slot-in_default t c = (two_slot c.args.self.now.rows.now _ _ _ (two t (goal.at.emit_term-bounds-self-slot-in_default t c).In_default) _ _ c.emit_term-body.ensures.wrote c.requires (op.Access 0)).0
 
 pub emit_term-emit_list-requires : goal.emit_term-emit_list-requires
-emit_term-emit_list-requires t c = let lt = ready_lt c.args.self.now.rows.now _ _ _ c.requires in (search rules, subst (λ (rows : List Row). ReadyList (map plain rows) c.emit_term-body.result (wrote c.args.slot c.follower-in_default.result (target c.emit_term-body.new.self))) (sym (ap (λ r. r.now) c.emit_term-body.ensures.same_rows)) (two_slot c.args.self.now.rows.now _ _ _ (two t (goal.at.emit_term-emit_list-requires t c).In_default) _ _ c.emit_term-body.ensures.wrote c.requires c.follower-in_default.result).1)
+emit_term-emit_list-requires t c = let lt = ready_lt c.args.self.now.rows.now _ _ _ c.requires in (search rules, subst (λ (rows : List Row). ReadyList (map plain rows) c.emit_term-body.result (wrote c.args.slot c.follower-in_default.result (target c.emit_term-body.new.self))) (sym (ap (λ r. r.now) c.emit_term-body.ensures.goes.rows)) (two_slot c.args.self.now.rows.now _ _ _ (two t (goal.at.emit_term-emit_list-requires t c).In_default) _ _ c.emit_term-body.ensures.wrote c.requires c.follower-in_default.result).1)
 
 pub emit_term-returns-in-Object-clause-wrote : goal.emit_term-returns-in-Object-clause-wrote
 emit_term-returns-in-Object-clause-wrote t c = let q : c.plain_number-count.result ≡ small (row_at c.args.self.now.rows.now c.args.at).number = search rules in wrote_object c.args.self.now.rows.now _ _ _ (object_kind _ _ c.kind_of-kind.ensures c.in-Object.is) c.plain_number-count.result q _ _ c.emit_methods.ensures.wrote
@@ -118,7 +117,7 @@ pub emit_term-returns-in-Variable-clause-wrote : goal.emit_term-returns-in-Varia
 emit_term-returns-in-Variable-clause-wrote t c = let q : c.leaf.result ≡ leaf_of (row_at c.args.self.now.rows.now c.args.at) = search rules in let lt = ready_lt c.args.self.now.rows.now _ _ _ c.requires in wrote_leaf c.args.self.now.rows.now _ _ _ (leaf_kind _ _ c.kind_of-kind.ensures c.in-Variable.is) c.leaf.result q
 
 pub emit_term-returns-in_default-clause-wrote : goal.emit_term-returns-in_default-clause-wrote
-emit_term-returns-in_default-clause-wrote t c = let q : c.follower-in_default.result ≡ follower_of (row_at c.args.self.now.rows.now c.args.at) c.emit_term-body.new.self.counts.contents = search rules in wrote_two c.args.self.now.rows.now _ _ _ (two t (goal.at.emit_term-returns-in_default-clause-wrote t c).In_default) _ _ c.emit_term-body.ensures.wrote c.follower-in_default.result q _ _ (subst (λ (rows : List Row). WroteList (map plain rows) c.emit_term-body.result 0 c.emit_list.result (wrote c.args.slot c.follower-in_default.result (target c.emit_term-body.new.self)) (target c.emit_list.new.self)) (ap (λ r. r.now) c.emit_term-body.ensures.same_rows) c.emit_list.ensures.wrote)
+emit_term-returns-in_default-clause-wrote t c = let q : c.follower-in_default.result ≡ follower_of (row_at c.args.self.now.rows.now c.args.at) c.emit_term-body.new.self.counts.contents = search rules in wrote_two c.args.self.now.rows.now _ _ _ (two t (goal.at.emit_term-returns-in_default-clause-wrote t c).In_default) _ _ c.emit_term-body.ensures.wrote c.follower-in_default.result q _ _ (subst (λ (rows : List Row). WroteList (map plain rows) c.emit_term-body.result 0 c.emit_list.result (wrote c.args.slot c.follower-in_default.result (target c.emit_term-body.new.self)) (target c.emit_list.new.self)) (ap (λ r. r.now) c.emit_term-body.ensures.goes.rows) c.emit_list.ensures.wrote)
 
 pub emit_list-front_len-spine-requires : goal.emit_list-front_len-spine-requires
 emit_list-front_len-spine-requires t c = let lt = list_lt c.args.self.now.rows.now _ _ c.requires in omega arith
