@@ -22,13 +22,13 @@ impl<'a, S: Store> Session<'a, S> {
     pub fn list(
         &self,
         program: u32,
-        area: &mut [Row],
+        rows: &mut [Row],
         stack: &mut [Pending],
     ) -> Result<u32, Refusal>
-        ensures answer { Some (told result (λ n. take n area.new)) ≡ answer self.now.area.tables self.now.area.counts (lent_rooms area.old stack.old) program }
-        ensures kept { IfOk result (λ n. (n ≤ length area.new) × (drop n area.new ≡ drop n area.old)) }
+        ensures answer { Some (told result (λ n. take n rows.new)) ≡ answer self.now.area.tables self.now.area.counts (lent_rooms rows.old stack.old) program }
+        ensures kept { IfOk result (λ n. (n ≤ length rows.new) × (drop n rows.new ≡ drop n rows.old)) }
     {
-        list_back(program, &self.area.tables, self.area.counts, area, stack)
+        list_back(program, &self.area, rows, stack)
     }
 
     /// The used parts of the code area.
