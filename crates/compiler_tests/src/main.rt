@@ -1,5 +1,5 @@
 //! Runs compile and list_back as the lines of the input say: on worked examples, on code areas made by hand, and on
-//! many tables made at random. A line that begins with `#` is repeated in the output.
+//! many tables made at random. Each line is repeated in the output; one that is no command, as a comment, asks for nothing more.
 #![tactic(auto)]
 
 mod making;
@@ -8,30 +8,72 @@ mod trying;
 mod words;
 
 use crate::making::{clones, object, one_more, rows_in};
-use crate::showing::show_used;
-use crate::trying::{Space, back, compiled, large, many, resized, stored};
-use crate::words::{Word, number_at, read_words};
+use crate::trying::{Space, large, many};
+use crate::words::{number, operation_of};
+use calculus::code::{Counts, ListEntry, MethodEntry};
 use compiler_bench::lets;
 use std::io;
 
-/// What a line asks for, by the first letter of its first word.
-fn obey(rt: &HostRuntime, space: &mut Space, letter: u8, words: &[Word]) -> io::Result<()> {
+/// Does what a line asks for.
+fn obey(rt: &HostRuntime, space: &mut Space, words: &[&str]) -> io::Result<()> {
     let heap = rt.alloc();
-    let first = number_at(words, 1);
-    match letter {
-        b't' => resized(heap, space, words),
-        b'c' => compiled(rt, space, &rows_in(heap, words)?, first),
-        b'b' => back(rt, space, first, words),
-        b's' => show_used(rt, space),
-        b'd' => large(rt, &clones(heap, first)?),
-        b'w' => large(rt, &object(heap, first)?),
-        b'h' => large(rt, &lets(heap, first)?),
-        b'e' => large(rt, &one_more(heap, first)?),
-        b'r' => many(rt, first),
-        _ => {
-            stored(space, letter, words);
+    match *words {
+        ["tables", contents, operations, methods] => space.resize(
+            heap,
+            number(contents),
+            number(operations),
+            number(methods),
+        ),
+        ["compile", givens, ref rows @ ..] => {
+            space.compile(rt, &rows_in(heap, rows)?, number(givens))
+        }
+        ["back", program, rows, lists] => {
+            space.back(rt, number(program), number(rows), number(lists))
+        }
+        ["show"] => space.show(rt),
+        ["deep", depth] => large(rt, &clones(heap, number(depth))?),
+        ["wide", methods] => large(rt, &object(heap, number(methods))?),
+        ["high", height] => large(rt, &lets(heap, number(height))?),
+        ["extra", height] => large(rt, &one_more(heap, number(height))?),
+        ["random", tables] => many(rt, number(tables)),
+        ["list", place, first, len, mark] => {
+            space.store_list(
+                number(place),
+                ListEntry {
+                    first: number(first),
+                    len: number(len),
+                    mark: number(mark),
+                },
+            );
             Ok(())
         }
+        ["operation", place, operation] => {
+            space.store_operation(number(place), operation_of(operation, 0));
+            Ok(())
+        }
+        ["operation", place, operation, next] => {
+            space.store_operation(number(place), operation_of(operation, number(next)));
+            Ok(())
+        }
+        ["method", place, label, list] => {
+            space.store_method(
+                number(place),
+                MethodEntry {
+                    label: (number(label) % 65536) as u16,
+                    list: number(list),
+                },
+            );
+            Ok(())
+        }
+        ["used", contents, operations, methods] => {
+            space.counts = Counts {
+                contents: number(contents),
+                operations: number(operations),
+                methods: number(methods),
+            };
+            Ok(())
+        }
+        _ => Ok(()),
     }
 }
 
@@ -41,14 +83,8 @@ fn main(rt: HostRuntime) -> io::Result<()> {
     for line in rt.lines(heap) {
         let text = line?;
         println!(rt; "{text}")?;
-        let words = read_words(heap, text.as_bytes())?;
-        let letter = match words.first() {
-            Some(word) => word.letter,
-            None => b'#',
-        };
-        if letter != b'#' {
-            obey(&rt, &mut space, letter, &words)?;
-        }
+        let words: Vec<&str> = text.split_whitespace().collect(heap)?;
+        obey(&rt, &mut space, &words)?;
     }
     Ok(())
 }

@@ -1,95 +1,103 @@
 //! Tables of rows, read from text or made at random.
-use crate::words::Word;
-use calculus::rows::{CLONE, FIGURE, LET, METHOD, OBJECT, Row, SELECT, UPDATE, VARIABLE};
+use crate::words::letter_and_number;
+use calculus::rows::{Row, RowKind};
 use compiler_bench::lets;
 use std::alloc::{AllocError, Global};
 
-/// A row of a kind, with a value in the field that the kind uses.
-pub(crate) fn row(kind: u8, value: u16) -> Row {
+/// The field that a kind uses.
+enum Field {
+    Label,
+    Number,
+}
+
+/// The field that a kind uses, if it uses one.
+fn field_of(kind: RowKind) -> Option<Field> {
     match kind {
-        SELECT | UPDATE | METHOD => Row {
-            kind,
-            label: value,
-            number: 0,
-        },
-        VARIABLE | FIGURE | OBJECT => Row {
-            kind,
-            label: 0,
-            number: i64::from(value),
-        },
-        _ => Row {
-            kind,
-            label: 0,
-            number: 0,
-        },
+        RowKind::Select | RowKind::Update | RowKind::Method => Some(Field::Label),
+        RowKind::Variable | RowKind::Figure | RowKind::Object => Some(Field::Number),
+        RowKind::Clone | RowKind::Let => None,
+    }
+}
+
+/// A row of a kind, with a value in the field that the kind uses.
+pub(crate) fn row(kind: RowKind, value: u16) -> Row {
+    match field_of(kind) {
+        Some(Field::Label) => Row::new(kind, value, 0),
+        Some(Field::Number) => Row::new(kind, 0, i64::from(value)),
+        None => Row::new(kind, 0, 0),
     }
 }
 
 /// The row with 0 in each field that its kind does not use.
 pub(crate) fn plain(given: Row) -> Row {
-    let mut kept = given;
-    match given.kind {
-        SELECT | UPDATE | METHOD => kept.number = 0,
-        VARIABLE | FIGURE | OBJECT => kept.label = 0,
-        _ => {
-            kept.label = 0;
-            kept.number = 0;
-        }
+    match RowKind::try_from(given.kind).ok().and_then(field_of) {
+        Some(Field::Label) => Row { number: 0, ..given },
+        Some(Field::Number) => Row { label: 0, ..given },
+        None => Row {
+            label: 0,
+            number: 0,
+            ..given
+        },
     }
-    kept
 }
 
-/// The kind that a letter stands for; 9 for a letter that stands for none.
-fn kind_of(letter: u8) -> u8 {
+/// The kind that a letter stands for.
+fn kind_of(letter: char) -> Option<RowKind> {
     match letter {
-        b'V' => VARIABLE,
-        b'F' => FIGURE,
-        b'O' => OBJECT,
-        b'S' => SELECT,
-        b'U' => UPDATE,
-        b'C' => CLONE,
-        b'L' => LET,
-        b'M' => METHOD,
-        _ => 9,
+        'V' => Some(RowKind::Variable),
+        'F' => Some(RowKind::Figure),
+        'O' => Some(RowKind::Object),
+        'S' => Some(RowKind::Select),
+        'U' => Some(RowKind::Update),
+        'C' => Some(RowKind::Clone),
+        'L' => Some(RowKind::Let),
+        'M' => Some(RowKind::Method),
+        _ => None,
     }
 }
 
-/// The rows that the words of a line name from the third on, as `S7 O1 M7 V1`: a letter for the kind, and the number or label that it uses.
-pub(crate) fn rows_in(heap: Global, words: &[Word]) -> Result<Vec<Row>, AllocError> {
-    let mut rows = Vec::new(heap);
-    for (place, word) in words.iter().enumerate() {
-        if place >= 2 {
-            rows.push(row(kind_of(word.letter), (word.number % 65536) as u16))?;
-        }
+/// A row of no kind.
+const STRANGE: Row = Row {
+    kind: 9,
+    label: 0,
+    number: 0,
+};
+
+/// The row that a word names, as `S7`: a letter for the kind, and the number or label that it uses.
+fn row_in(word: &str) -> Row {
+    let (letter, number) = letter_and_number(word);
+    match letter.and_then(kind_of) {
+        Some(kind) => row(kind, (number % 65536) as u16),
+        None => STRANGE,
     }
-    Ok(rows)
+}
+
+/// The rows that words name.
+pub(crate) fn rows_in(heap: Global, words: &[&str]) -> Result<Vec<Row>, AllocError> {
+    words.iter().map(|word| row_in(word)).collect(heap)
 }
 
 /// `depth` clones around a figure.
 pub(crate) fn clones(heap: Global, depth: u32) -> Result<Vec<Row>, AllocError> {
-    let mut rows = Vec::new(heap);
-    for _ in 0..depth {
-        rows.push(row(CLONE, 0))?;
-    }
-    rows.push(row(FIGURE, 0))?;
+    let mut rows = vec![in heap; row(RowKind::Clone, 0); depth as usize]?;
+    rows.push(row(RowKind::Figure, 0))?;
     Ok(rows)
 }
 
 /// Lets of this height on both sides, and a row more.
 pub(crate) fn one_more(heap: Global, height: u32) -> Result<Vec<Row>, AllocError> {
     let mut rows = lets(heap, height)?;
-    rows.push(row(FIGURE, 0))?;
+    rows.push(row(RowKind::Figure, 0))?;
     Ok(rows)
 }
 
 /// An object of this many methods.
 pub(crate) fn object(heap: Global, methods: u32) -> Result<Vec<Row>, AllocError> {
-    let mut rows = Vec::new(heap);
     let count = (methods % 65536) as u16;
-    rows.push(row(OBJECT, count))?;
+    let mut rows = vec![in heap; row(RowKind::Object, count)]?;
     for label in 0..count {
-        rows.push(row(METHOD, label))?;
-        rows.push(row(VARIABLE, 1))?;
+        rows.push(row(RowKind::Method, label))?;
+        rows.push(row(RowKind::Variable, 1))?;
     }
     Ok(rows)
 }
@@ -116,8 +124,7 @@ impl Random {
 
     /// The next number below `end`, where there is one.
     fn below(&mut self, end: u16) -> u16 {
-        let drawn = self.number();
-        if end == 0 { 0 } else { drawn % end }
+        self.number().checked_rem(end).unwrap_or(0)
     }
 }
 
@@ -130,16 +137,21 @@ enum Want {
 
 /// Puts what the kind does not use into the unused fields of a row.
 fn strewn(random: &mut Random, given: Row) -> Row {
-    let mut row = given;
-    match given.kind {
-        SELECT | UPDATE | METHOD => row.number = i64::from(random.number()) - 30_000,
-        VARIABLE | FIGURE | OBJECT => row.label = random.number(),
-        _ => {
-            row.label = random.number();
-            row.number = i64::from(random.number());
-        }
+    match RowKind::try_from(given.kind).ok().and_then(field_of) {
+        Some(Field::Label) => Row {
+            number: i64::from(random.number()) - 30_000,
+            ..given
+        },
+        Some(Field::Number) => Row {
+            label: random.number(),
+            ..given
+        },
+        None => Row {
+            label: random.number(),
+            number: i64::from(random.number()),
+            ..given
+        },
     }
-    row
 }
 
 /// Makes the first row of a term, and adds the parts that it has to what is wanted, the first of them last.
@@ -162,21 +174,21 @@ fn grow(
     match random.below(6) {
         0 => {
             wants.push(receiver)?;
-            Ok(row(SELECT, random.below(9)))
+            Ok(row(RowKind::Select, random.below(9)))
         }
         1 => {
             wants.push(receiver)?;
-            Ok(row(CLONE, 0))
+            Ok(row(RowKind::Clone, 0))
         }
         2 => {
             wants.push(body)?;
             wants.push(receiver)?;
-            Ok(row(UPDATE, random.below(9)))
+            Ok(row(RowKind::Update, random.below(9)))
         }
         3 => {
             wants.push(body)?;
             wants.push(receiver)?;
-            Ok(row(LET, 0))
+            Ok(row(RowKind::Let, 0))
         }
         _ => {
             let methods = random.below(5);
@@ -187,7 +199,7 @@ fn grow(
                     scope,
                 })?;
             }
-            Ok(row(OBJECT, methods))
+            Ok(row(RowKind::Object, methods))
         }
     }
 }
@@ -195,9 +207,9 @@ fn grow(
 /// A variable, or a figure.
 fn leaf(random: &mut Random, scope: u16) -> Row {
     if scope > 0 && random.below(2) == 0 {
-        row(VARIABLE, random.below(scope).wrapping_add(1))
+        row(RowKind::Variable, random.below(scope).wrapping_add(1))
     } else {
-        row(FIGURE, random.number())
+        row(RowKind::Figure, random.number())
     }
 }
 
@@ -209,11 +221,11 @@ pub(crate) fn random_rows(
     size: usize,
 ) -> Result<Vec<Row>, AllocError> {
     let mut rows = Vec::new(heap);
-    let mut wants = Vec::new(heap);
-    wants.push(Want::Term {
+    let first = Want::Term {
         depth: 1,
         scope: givens,
-    })?;
+    };
+    let mut wants = vec![in heap; first]?;
     for made in 0..2000usize {
         let next = match wants.pop() {
             None => break,
@@ -228,7 +240,7 @@ pub(crate) fn random_rows(
                     depth: depth.wrapping_add(1),
                     scope: scope.wrapping_add(1),
                 })?;
-                row(METHOD, label)
+                row(RowKind::Method, label)
             }
             Some(Want::Term { depth, scope }) => {
                 if depth < 150 && made < size {

@@ -6,10 +6,8 @@ ghost use Rattle.compiler.specs.Compile.{answer};
 ghost use Rattle.listing.specs.Back.{Gave};
 
 use crate::making::{Random, plain, random_rows};
-use crate::showing::{show_counts, show_refusal, show_rows};
-use crate::words::{NO_WORD, Word, number_at};
-use calculus::code::{Counts, ListEntry, MethodEntry, Operation, Tables};
-use calculus::lookup::entry_at;
+use crate::showing::{Shown, show_code, show_rows};
+use calculus::code::{CodeArea, Counts, ListEntry, MethodEntry, Operation, Tables};
 use calculus::refusals::Refusal;
 use calculus::rows::Row;
 use compiler::compile;
@@ -18,38 +16,12 @@ use listing::pending::Pending;
 use std::alloc::Global;
 use std::io;
 
-const NO_LIST: ListEntry = ListEntry {
-    first: 0,
-    len: 0,
-    mark: 0,
-};
-
-const NO_METHOD: MethodEntry = MethodEntry { label: 0, list: 0 };
-
-const NO_ROW: Row = Row {
-    kind: 0,
-    label: 0,
-    number: 0,
-};
-
-const NO_PENDING: Pending = Pending {
-    list: 0,
-    next: 0,
-    method: 0,
-};
-
-const UNUSED: Counts = Counts {
-    contents: 0,
-    operations: 0,
-    methods: 0,
-};
-
-/// A code area.
+/// A code area of its own.
 #[derive(Drop)]
 pub(crate) struct Space {
-    pub(crate) contents: Vec<ListEntry>,
-    pub(crate) operations: Vec<Operation>,
-    pub(crate) methods: Vec<MethodEntry>,
+    contents: Vec<ListEntry>,
+    operations: Vec<Operation>,
+    methods: Vec<MethodEntry>,
     pub(crate) counts: Counts,
 }
 
@@ -59,109 +31,98 @@ impl Space {
             contents: Vec::new(heap),
             operations: Vec::new(heap),
             methods: Vec::new(heap),
-            counts: UNUSED,
+            counts: Counts::default(),
         }
     }
-}
 
-/// `tables C O M`: tables of these lengths, none of them used.
-pub(crate) fn resized(heap: Global, space: &mut Space, words: &[Word]) -> io::Result<()> {
-    space.contents = vec![in heap; NO_LIST; number_at(words, 1) as usize]?;
-    space.operations = vec![in heap; Operation::Clone; number_at(words, 2) as usize]?;
-    space.methods = vec![in heap; NO_METHOD; number_at(words, 3) as usize]?;
-    space.counts = UNUSED;
-    Ok(())
-}
-
-/// The operation that a word names, with the number of the next word.
-fn operation_of(word: Word, next: u32) -> Operation {
-    let label = (word.number % 65536) as u16;
-    match word.letter {
-        b'A' => Operation::Access(word.number),
-        b'F' => Operation::Figure(i64::from(word.number)),
-        b'O' => Operation::Object {
-            first: word.number,
-            count: next,
-        },
-        b'S' => Operation::Select(label),
-        b'U' => Operation::Update(label, next),
-        b'L' => Operation::Let(word.number),
-        _ => Operation::Clone,
+    /// The area, lent.
+    fn area(&mut self) -> CodeArea<'_> {
+        let counts = self.counts;
+        CodeArea {
+            tables: Tables {
+                contents: &mut self.contents,
+                operations: &mut self.operations,
+                methods: &mut self.methods,
+            },
+            counts,
+        }
     }
-}
 
-/// `list I F L M`, `operation I X N` and `method I L N` store an entry at place I; `used C O M` sets the counts.
-pub(crate) fn stored(space: &mut Space, letter: u8, words: &[Word]) {
-    let place = number_at(words, 1) as usize;
-    let a = number_at(words, 2);
-    let b = number_at(words, 3);
-    match letter {
-        b'l' if place < space.contents.len() => {
-            space.contents[place] = ListEntry {
-                first: a,
-                len: b,
-                mark: number_at(words, 4),
-            };
-        }
-        b'o' if place < space.operations.len() => {
-            let word = entry_at(words, 2).unwrap_or(NO_WORD);
-            space.operations[place] = operation_of(word, b);
-        }
-        b'm' if place < space.methods.len() => {
-            let label = (a % 65536) as u16;
-            space.methods[place] = MethodEntry { label, list: b };
-        }
-        b'u' => {
-            space.counts = Counts {
-                contents: number_at(words, 1),
-                operations: a,
-                methods: b,
-            };
-        }
-        _ => {}
+    /// `tables C O M`: tables of these lengths, none of them used.
+    pub(crate) fn resize(
+        &mut self,
+        heap: Global,
+        contents: u32,
+        operations: u32,
+        methods: u32,
+    ) -> io::Result<()> {
+        self.contents = vec![in heap; ListEntry::default(); contents as usize]?;
+        self.operations = vec![in heap; Operation::Clone; operations as usize]?;
+        self.methods = vec![in heap; MethodEntry::default(); methods as usize]?;
+        self.counts = Counts::default();
+        Ok(())
     }
-}
 
-/// `compile G ROWS`: compiles the rows with G givens.
-pub(crate) fn compiled(
-    rt: &HostRuntime,
-    space: &mut Space,
-    rows: &[Row],
-    givens: u32,
-) -> io::Result<()> {
-    let mut tables = Tables {
-        contents: &mut space.contents,
-        operations: &mut space.operations,
-        methods: &mut space.methods,
-    };
-    match compile(rows, givens, &mut tables, &mut space.counts) {
-        Ok(program) => print!(rt; "program {program}")?,
-        Err(refusal) => show_refusal(rt, refusal)?,
+    /// `list I F L M`: stores an entry at place I.
+    pub(crate) fn store_list(&mut self, place: u32, list: ListEntry) {
+        if let Some(entry) = self.contents.get_mut(place as usize) {
+            *entry = list;
+        }
     }
-    show_counts(rt, space.counts)
-}
 
-/// `back N R L`: lists program N back, with room for R rows and L pending lists.
-pub(crate) fn back(
-    rt: &HostRuntime,
-    space: &mut Space,
-    program: u32,
-    words: &[Word],
-) -> io::Result<()> {
-    let heap = rt.alloc();
-    let mut area = vec![in heap; NO_ROW; number_at(words, 2) as usize]?;
-    let mut stack = vec![in heap; NO_PENDING; number_at(words, 3) as usize]?;
-    let counts = space.counts;
-    let tables = Tables {
-        contents: &mut space.contents,
-        operations: &mut space.operations,
-        methods: &mut space.methods,
-    };
-    match list_back(program, &tables, counts, &mut area, &mut stack) {
-        Ok(len) => show_rows(rt, &area, len),
-        Err(refusal) => {
-            show_refusal(rt, refusal)?;
-            println!(rt; "")
+    /// `operation I X N`: stores an operation at place I.
+    pub(crate) fn store_operation(&mut self, place: u32, operation: Operation) {
+        if let Some(entry) = self.operations.get_mut(place as usize) {
+            *entry = operation;
+        }
+    }
+
+    /// `method I L N`: stores a method's entry at place I.
+    pub(crate) fn store_method(&mut self, place: u32, method: MethodEntry) {
+        if let Some(entry) = self.methods.get_mut(place as usize) {
+            *entry = method;
+        }
+    }
+
+    /// `compile G ROWS`: compiles the rows with G givens.
+    pub(crate) fn compile(
+        &mut self,
+        rt: &HostRuntime,
+        rows: &[Row],
+        givens: u32,
+    ) -> io::Result<()> {
+        let mut area = self.area();
+        let answer = compile(rows, givens, &mut area);
+        let counts = area.counts;
+        self.counts = counts;
+        match answer {
+            Ok(program) => println!(rt; "program {program}, {}", Shown(counts)),
+            Err(refusal) => println!(rt; "{}, {}", Shown(refusal), Shown(counts)),
+        }
+    }
+
+    /// `back N R L`: lists program N back, with room for R rows and L pending lists.
+    pub(crate) fn back(
+        &mut self,
+        rt: &HostRuntime,
+        program: u32,
+        rows: u32,
+        lists: u32,
+    ) -> io::Result<()> {
+        let heap = rt.alloc();
+        let mut rows = vec![in heap; Row::default(); rows as usize]?;
+        let mut stack = vec![in heap; Pending::default(); lists as usize]?;
+        match list_back(program, &self.area(), &mut rows, &mut stack) {
+            Ok(len) => show_rows(rt, &rows[..len as usize]),
+            Err(refusal) => println!(rt; "{}", Shown(refusal)),
+        }
+    }
+
+    /// `show`: every list that is used, with its operations, and then the method entries.
+    pub(crate) fn show(&mut self, rt: &HostRuntime) -> io::Result<()> {
+        match self.area().used() {
+            None => println!(rt; "counts past the tables"),
+            Some(code) => show_code(rt, &code),
         }
     }
 }
@@ -170,62 +131,44 @@ pub(crate) fn back(
 fn there_and_back(
     rows: &[Row],
     givens: u32,
-    tables: &mut Tables<'_>,
-    counts: &mut Counts,
-    area: &mut [Row],
+    area: &mut CodeArea<'_>,
+    back: &mut [Row],
     stack: &mut [Pending],
 ) -> Result<u32, Refusal>
     // whatever the tables hold, rows that are accepted come back as they were, unused fields zero
     ensures { (n : ℕ) →
-        answer rows.now givens tables.old counts.old ≡ Ok n →
-        length rows.now ≤ counted (length area.old) →
+        answer rows.now givens area.old.tables area.old.counts ≡ Ok n →
+        length rows.now ≤ counted (length back.old) →
         200 ≤ counted (length stack.old) →
-        Gave (map plain_row rows.now) result area.old area.new }
+        Gave (map plain_row rows.now) result back.old back.new }
 {
-    match compile(rows, givens, tables, counts) {
-        Ok(program) => list_back(program, tables, *counts, area, stack),
-        Err(refusal) => Err(refusal),
-    }
+    let program = compile(rows, givens, area)?;
+    list_back(program, area, back, stack)
 }
 
-/// Whether the first rows of the area are these, with 0 in the fields that are not used.
-fn came_back(rows: &[Row], area: &[Row], len: u32) -> bool {
-    if rows.len() != len as usize {
-        return false;
-    }
-    for (place, given) in rows.iter().enumerate() {
-        if entry_at(area, place) != Some(plain(*given)) {
-            return false;
-        }
-    }
-    true
+/// Whether the first rows that came back are these, with 0 in the fields that are not used.
+fn came_back(rows: &[Row], back: &[Row], len: u32) -> bool {
+    back.iter()
+        .take(len as usize)
+        .copied()
+        .eq(rows.iter().map(|row| plain(*row)))
 }
 
 /// Compiles a table and lists it back: how many rows came back, and whether they are the same.
 fn round(heap: Global, rows: &[Row], givens: u32) -> io::Result<Result<(u32, bool), Refusal>> {
     let count = rows.len();
-    let mut contents = vec![in heap; NO_LIST; count]?;
+    let mut contents = vec![in heap; ListEntry::default(); count]?;
     let mut operations = vec![in heap; Operation::Clone; count]?;
-    let mut methods = vec![in heap; NO_METHOD; count]?;
-    let mut area = vec![in heap; NO_ROW; count]?;
-    let mut stack = vec![in heap; NO_PENDING; 200]?;
-    let mut counts = UNUSED;
-    let mut tables = Tables {
+    let mut methods = vec![in heap; MethodEntry::default(); count]?;
+    let mut back = vec![in heap; Row::default(); count]?;
+    let mut stack = vec![in heap; Pending::default(); 200]?;
+    let mut area = CodeArea::new(Tables {
         contents: &mut contents,
         operations: &mut operations,
         methods: &mut methods,
-    };
-    match there_and_back(
-        rows,
-        givens,
-        &mut tables,
-        &mut counts,
-        &mut area,
-        &mut stack,
-    ) {
-        Ok(len) => Ok(Ok((len, came_back(rows, &area, len)))),
-        Err(refusal) => Ok(Err(refusal)),
-    }
+    });
+    let answer = there_and_back(rows, givens, &mut area, &mut back, &mut stack);
+    Ok(answer.map(|len| (len, came_back(rows, &back, len))))
 }
 
 /// `deep K`, `wide K`, `high K`: K clones, an object of K methods, lets K high on both sides, compiled and listed back in areas as long as the table;
@@ -234,11 +177,7 @@ pub(crate) fn large(rt: &HostRuntime, rows: &[Row]) -> io::Result<()> {
     let count = rows.len();
     match round(rt.alloc(), rows, 0)? {
         Ok((len, equal)) => println!(rt; "{count} rows, {len} came back, equal: {equal}"),
-        Err(refusal) => {
-            print!(rt; "{count} rows, ")?;
-            show_refusal(rt, refusal)?;
-            println!(rt; "")
-        }
+        Err(refusal) => println!(rt; "{count} rows, {}", Shown(refusal)),
     }
 }
 

@@ -15,10 +15,11 @@ nothing_more T =
     ∙ ap (λ (x : List _). record { contents = T.contents; operations = x; methods = T.methods ++ [] }) b
     ∙ ap (λ (x : List _). record { contents = T.contents; operations = T.operations; methods = x }) c
 
-pub returns-in-Ok : goal.returns-in-Ok
-returns-in-Ok c n e h l =
-    let k = c.in-Ok.ensures.leaves in
+pub returns : goal.returns
+returns c n e h l =
+    let k = c.in_ok-program.ensures.leaves in
     let x = k.term.0 in
     let w = k.term.1 in
-    let before : Text = used c.args.tables.now c.args.counts.now in
+    let area = c.args.area.now in
+    let before : Text = used area.tables area.counts in
     c.list_back.ensures.compiled before nothing c.args.rows.now c.args.givens x k.fits (k.appended x w ∙ sym (nothing_more _)) (k.number ∙ sym (ap (λ (y : Counts). y.contents) k.counted)) w.is w.fit h l
