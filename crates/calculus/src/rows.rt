@@ -77,20 +77,3 @@ impl Row {
         }
     }
 }
-
-/// A variable: `number` is its index, 1 for the nearest enclosing binder.
-pub const VARIABLE: u8 = 1;
-/// A figure: `number` is the figure.
-pub const FIGURE: u8 = 2;
-/// An object: `number` says how many method rows follow.
-pub const OBJECT: u8 = 3;
-/// A select of `label`: the receiver follows.
-pub const SELECT: u8 = 4;
-/// An update of `label`: the receiver and the new body follow.
-pub const UPDATE: u8 = 5;
-/// A clone: the receiver follows.
-pub const CLONE: u8 = 6;
-/// A let: the bound term and the body follow.
-pub const LET: u8 = 7;
-/// A method of `label`, only as a part of an object: the body follows.
-pub const METHOD: u8 = 8;
