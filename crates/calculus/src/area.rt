@@ -1,9 +1,17 @@
 //! What is used of a code area.
 ghost use Rattle.std.specs.Prelude.{◌≡◌, true, false, MatchOption};
+ghost use Rattle.calculus.specs.Held.{counted};
 ghost use Rattle.calculus.specs.Text.{text_of, used, rooms, within, none_used};
 
 use crate::code::{Code, CodeArea, Counts, ListEntry, MethodEntry, Operation, Tables};
-use crate::stack::counted_len;
+use crate::stack::MOST_ENTRIES;
+
+/// How many entries an area of this length counts as.
+pub fn counted_len(len: usize) -> u32
+    ensures { result ≡ counted len }
+{
+    len.min(MOST_ENTRIES) as u32
+}
 
 /// How many entries each table counts as.
 pub fn rooms_of(tables: &Tables<'_>) -> Counts

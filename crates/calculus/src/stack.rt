@@ -1,28 +1,23 @@
 //! A bounded stack over a lent slice: return frames in a run, pending lists in listing back.
 ghost use Rattle.std.specs.Prelude.{slice_get, ◌≡◌, ℕ, ◌+◌, ◌-◌, ◌*◌, ◌<◌, ◌≤◌, min, List, [], ◌∷◌, ◌++◌, length, MatchOption, MatchResult, nat_lt};
-ghost use Rattle.calculus.specs.Held.{counted, laid, held, room};
 
+use crate::area::counted_len;
 use crate::lookup::entry_at;
 
 /// An area of more entries than this counts as this long.
 pub const MOST_ENTRIES: usize = 1_048_576;
 
-/// How many entries an area of this length counts as.
-pub fn counted_len(len: usize) -> u32
-    ensures { result ≡ counted len }
-{
-    len.min(MOST_ENTRIES) as u32
-}
-
 /// The entries that a stack holds are the first `count` of the lent slice, the top last.
-/// A count past the slice counts as the slice's length, so every value of the type is a stack.
 #[derive(Drop)]
 pub struct Stack<'a, T> {
     entries: &'a mut [T],
     count: usize,
+    ghost fits: { count ≤ length entries.now },
 }
 
 impl<'a, T: Copy> Stack<'a, T> {
+    ghost use Rattle.calculus.specs.Held.{counted, laid, held, room};
+
     /// An empty stack over the slice.
     pub fn new(entries: &'a mut [T]) -> Stack<'a, T>
         ensures laid { laid result ≡ [] }
@@ -38,7 +33,7 @@ impl<'a, T: Copy> Stack<'a, T> {
         ensures held { result ≡ length (held self.now) }
         ensures least { result ≡ min self.now.count (length self.now.entries.now) }
     {
-        self.count.min(self.entries.len())
+        self.count // never past the slice
     }
 
     /// How many entries it can hold.

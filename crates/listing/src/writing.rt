@@ -5,11 +5,12 @@ ghost use Rattle.calculus.specs.Text.{text_of};
 
 use crate::pending::Pending;
 use crate::reading::row_at;
+use calculus::area::counted_len;
 use calculus::code::{Code, ListEntry};
 use calculus::lookup::entry_at;
 use calculus::refusals::Refusal;
 use calculus::rows::Row;
-use calculus::stack::{Stack, counted_len};
+use calculus::stack::Stack;
 
 /// A listing under way: the code that is read, the lists that are begun and not ended, and the rows written so far,
 /// which are the first `count` of a lent area (no `Stack`, since the lender is also told what lies past them).

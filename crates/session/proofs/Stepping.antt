@@ -18,10 +18,10 @@ use Rattle.session_laws.proofs.Leaving.{areas_are_sessions}
 use Rattle.session.specs.declared.session.Session.{Session}
 use Rattle.session.specs.Steps.{held_by, Whole, Step}
 
-module _ {S : Type 0} (meaning : S → Meaning) (before : Session S) (w : Whole meaning before) where
+module _ {S : Type 0} (meaning : S → Meaning) (before : Session S) where
   -- what the calls answer and leave there, by their own definitions
   pub defined : OverArea before.area.tables before.area.counts (state_of before.machine) (meaning before.store)
-  defined = areas_are_sessions before.area.tables before.area.counts (state_of before.machine) (meaning before.store) w
+  defined = areas_are_sessions before.area.tables before.area.counts (state_of before.machine) (meaning before.store) before.whole
 
   module _ (after : Session S) where
     -- a call that answers and leaves what the definitions say
@@ -36,7 +36,7 @@ module _ {S : Type 0} (meaning : S → Meaning) (before : Session S) (w : Whole 
         after.area ≡ before.area → state_of after.machine ≡ s → meaning after.store ≡ m → Step meaning c before a after
     steps c a s m e l same state store =
         let same_left : over before.area s m ≡ held_by meaning after = cc in
-        stepped c a e (subst (λ (x : laws.Session). Leaves (held_by meaning before) c x) same_left l) (ap (λ (x : CodeArea). within x.counts (rooms x.tables)) same ∙ w)
+        stepped c a e (subst (λ (x : laws.Session). Leaves (held_by meaning before) c x) same_left l) (ap (λ (x : CodeArea). within x.counts (rooms x.tables)) same ∙ before.whole)
 
     -- compile, accepted or refused, over the same machine and store
     pub compile_steps : (rows : List Row) (g : ℕ) (r : Result ℕ Refusal) → r ≡ code.answer rows g before.area.tables before.area.counts →
@@ -47,4 +47,4 @@ module _ {S : Type 0} (meaning : S → Meaning) (before : Session S) (w : Whole 
     compile_steps rows g (Err x) e k same =
         let f₁ = k.contents in let f₂ = k.operations in let f₃ = k.methods in let f₄ = k.counts in
         let kept : within after.area.counts (rooms after.area.tables) ≡ within before.area.counts (rooms before.area.tables) = cc in
-        stepped (compile rows g) (Err x) (e ∙ defined.compile_answers rows g) (subst (λ (x : laws.Session). Leaves (held_by meaning before) (compile rows g) x) same (defined.compile_refused rows g x _ _ (sym e) k)) (kept ∙ w)
+        stepped (compile rows g) (Err x) (e ∙ defined.compile_answers rows g) (subst (λ (x : laws.Session). Leaves (held_by meaning before) (compile rows g) x) same (defined.compile_refused rows g x _ _ (sym e) k)) (kept ∙ before.whole)

@@ -45,7 +45,7 @@ impl<'a, S: Store> Session<'a, S> {
             (λ _. Untouched self.old.area.tables self.old.area.counts self.new.area.tables self.new.area.counts) }
         ensures machine { state_of self.new.machine ≡ state_of self.old.machine }
         ensures store { S.meaning self.new.store ≡ S.meaning self.old.store }
-        ensures step { Whole S.Store.meaning self.old → Step S.Store.meaning (call.compile rows.now givens) self.old result self.new }
+        ensures step { Step S.Store.meaning (call.compile rows.now givens) self.old result self.new }
     {
         compile(rows, givens, &mut self.area)
     }
@@ -56,7 +56,7 @@ impl<'a, S: Store> Session<'a, S> {
         ensures state { state_of self.new.machine ≡ start_state self.old.area.tables self.old.area.counts (state_of self.old.machine) (S.meaning self.old.store) program givens.now allowance }
         ensures area { self.new.area ≡ self.old.area }
         ensures store { S.meaning self.new.store ≡ S.meaning self.old.store }
-        ensures step { Whole S.Store.meaning self.old → Step S.Store.meaning (call.start program givens.now allowance) self.old result self.new }
+        ensures step { Step S.Store.meaning (call.start program givens.now allowance) self.old result self.new }
     {
         self.machine
             .start(&self.area, &self.store, program, givens, allowance)
@@ -68,7 +68,7 @@ impl<'a, S: Store> Session<'a, S> {
         ensures state { state_of self.new.machine ≡ (run_outcome n self.old.area.tables self.old.area.counts (state_of self.old.machine) (S.meaning self.old.store)).state }
         ensures store { S.meaning self.new.store ≡ (run_outcome n self.old.area.tables self.old.area.counts (state_of self.old.machine) (S.meaning self.old.store)).store }
         ensures area { self.new.area ≡ self.old.area }
-        ensures step { Whole S.Store.meaning self.old → Step S.Store.meaning (call.run n) self.old result self.new }
+        ensures step { Step S.Store.meaning (call.run n) self.old result self.new }
     {
         self.machine.run(&self.area, &mut self.store, n)
     }

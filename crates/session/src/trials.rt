@@ -2,7 +2,7 @@
 ghost use Rattle.std.specs.Prelude.{◌≡◌};
 ghost use Rattle.machine.specs.Machine.{state_of};
 ghost use Rattle.reference.specs.Calls as call;
-ghost use Rattle.session.specs.Steps.{Whole, Step};
+ghost use Rattle.session.specs.Steps.{Step};
 ghost use Rattle.trial_layer.specs.Layers.{layer_meaning};
 ghost use Rattle.trial_layer.specs.Trials.{open_result, opening, keep_result, kept, back_result, put_back};
 
@@ -19,7 +19,7 @@ impl<'a, S: Store> Session<'a, TrialLayer<S>> {
         ensures store { layer_meaning S.Store.meaning self.new.store ≡ opening (layer_meaning S.Store.meaning self.old.store) }
         ensures machine { state_of self.new.machine ≡ state_of self.old.machine }
         ensures area { self.new.area ≡ self.old.area }
-        ensures step { Whole (layer_meaning S.Store.meaning) self.old → Step (layer_meaning S.Store.meaning) call.open_trial self.old result self.new }
+        ensures step { Step (layer_meaning S.Store.meaning) call.open_trial self.old result self.new }
     {
         self.store.open()
     }
@@ -30,7 +30,7 @@ impl<'a, S: Store> Session<'a, TrialLayer<S>> {
         ensures store { layer_meaning S.Store.meaning self.new.store ≡ kept (layer_meaning S.Store.meaning self.old.store) token.number }
         ensures machine { state_of self.new.machine ≡ state_of self.old.machine }
         ensures area { self.new.area ≡ self.old.area }
-        ensures step { Whole (layer_meaning S.Store.meaning) self.old → Step (layer_meaning S.Store.meaning) (call.keep token.number) self.old result self.new }
+        ensures step { Step (layer_meaning S.Store.meaning) (call.keep token.number) self.old result self.new }
     {
         self.store.keep(token)
     }
@@ -41,7 +41,7 @@ impl<'a, S: Store> Session<'a, TrialLayer<S>> {
         ensures store { layer_meaning S.Store.meaning self.new.store ≡ put_back (layer_meaning S.Store.meaning self.old.store) token.number }
         ensures machine { state_of self.new.machine ≡ state_of self.old.machine }
         ensures area { self.new.area ≡ self.old.area }
-        ensures step { Whole (layer_meaning S.Store.meaning) self.old → Step (layer_meaning S.Store.meaning) (call.put_back token.number) self.old result self.new }
+        ensures step { Step (layer_meaning S.Store.meaning) (call.put_back token.number) self.old result self.new }
     {
         self.store.put_back(token)
     }

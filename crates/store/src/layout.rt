@@ -5,8 +5,8 @@ ghost use Rattle.store.specs.Layout.{part};
 ghost use Rattle.store.specs.Meaning.{place_from};
 
 use crate::closures::Method;
+use calculus::area::counted_len;
 use calculus::lookup::entry_at;
-use calculus::stack::counted_len;
 
 /// A stretch of a method area: its first entry, and how many there are.
 #[derive(Clone, Copy, Default)]

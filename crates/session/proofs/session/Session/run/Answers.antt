@@ -5,6 +5,5 @@ use Rattle.session.proofs.session.Session.run.Goals as goal
 
 pub returns-clause-step : goal.returns-clause-step
 returns-clause-step g c =
-    λ w.
-    let o = defined g.S.Store.meaning c.args.self.now w in
-    steps g.S.Store.meaning c.args.self.now w _ (call.run c.args.n) c.run.result _ _ (c.run.ensures.answer ∙ o.run_answers c.args.n) (o.run_leaves c.args.n) refl c.run.ensures.state c.run.ensures.store
+    let o = defined g.S.Store.meaning c.args.self.now in
+    steps g.S.Store.meaning c.args.self.now _ (call.run c.args.n) c.run.result _ _ (c.run.ensures.answer ∙ o.run_answers c.args.n) (o.run_leaves c.args.n) refl c.run.ensures.state c.run.ensures.store

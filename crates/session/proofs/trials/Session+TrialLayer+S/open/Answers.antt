@@ -6,6 +6,5 @@ use Rattle.session.proofs.trials.Session+TrialLayer+S.open.Goals as goal
 
 pub returns-clause-step : goal.returns-clause-step
 returns-clause-step g c =
-    λ w.
-    let o = defined (layer_meaning g.S.Store.meaning) c.args.self.now w in
-    steps (layer_meaning g.S.Store.meaning) c.args.self.now w _ (call.open_trial) c.open.result _ _ c.open.ensures.answer o.open_leaves refl refl c.open.ensures.state
+    let o = defined (layer_meaning g.S.Store.meaning) c.args.self.now in
+    steps (layer_meaning g.S.Store.meaning) c.args.self.now _ (call.open_trial) c.open.result _ _ c.open.ensures.answer o.open_leaves refl refl c.open.ensures.state

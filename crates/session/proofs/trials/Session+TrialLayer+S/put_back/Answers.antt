@@ -6,6 +6,5 @@ use Rattle.session.proofs.trials.Session+TrialLayer+S.put_back.Goals as goal
 
 pub returns-clause-step : goal.returns-clause-step
 returns-clause-step g c =
-    λ w.
-    let o = defined (layer_meaning g.S.Store.meaning) c.args.self.now w in
-    steps (layer_meaning g.S.Store.meaning) c.args.self.now w _ (call.put_back c.args.token.number) c.put_back.result _ _ c.put_back.ensures.answer (o.put_back_leaves c.args.token.number) refl refl c.put_back.ensures.state
+    let o = defined (layer_meaning g.S.Store.meaning) c.args.self.now in
+    steps (layer_meaning g.S.Store.meaning) c.args.self.now _ (call.put_back c.args.token.number) c.put_back.result _ _ c.put_back.ensures.answer (o.put_back_leaves c.args.token.number) refl refl c.put_back.ensures.state
