@@ -18,7 +18,7 @@ pub struct Script {
     rt: HostRuntime,
     lines: Lines<BufReader<Stdin>>,
     settings: Settings,
-    /// The number of the line read last, counted from 1.
+    /// The number of the line read last, counted from 1: counted here, since it goes on from call to call.
     line: u64,
 }
 

@@ -82,6 +82,7 @@ fn push_values<S: Store>(
     env: u32,
 ) -> Result<(), AllocError> {
     let mut env = env;
+    // an environment is a number, and each of its cells has the next one's
     for i in 0..MOST_ENTRIES {
         let Some(cell) = first_cell(session, env) else {
             return Ok(());
@@ -105,6 +106,7 @@ fn object_line<S: Store>(
     let Ok(size) = session.size(location) else {
         return Ok(line);
     };
+    // a store is asked for its objects and their methods by number
     for place in 0..size {
         let Ok(method) = session.method_at(location, place) else {
             return Ok(line);

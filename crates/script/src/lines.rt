@@ -15,10 +15,7 @@ fn expect<T: OfWord>(words: &mut Words<'_>, what: Expected) -> Result<T, Expecte
     ensures value { result ≡ first_in T.in_word what (left words.old) }
     ensures rest { left words.new ≡ drop 1 (left words.old) }
 {
-    match words.next() {
-        Some(word) => T::of_word(word).ok_or(what),
-        None => Err(what),
-    }
+    words.next().and_then(|word| T::of_word(word)).ok_or(what)
 }
 
 /// This, where no word is left.
@@ -102,6 +99,7 @@ fn named_lengths(mut words: Words<'_>) -> Result<Lengths, Expected>
         return Err(Expected::AreaName);
     }
     let mut lengths = Lengths::none();
+    // a turn takes two words, which a `for` over them cannot
     while let Some(word) = words.next() {
         let area = new_area(lengths, word)?;
         let length = expect(&mut words, Expected::AreaLength)?;

@@ -66,6 +66,7 @@ fn spelled_out(word: &[u8]) -> Option<Row>
 }
 
 /// A row: a sign with its field, or spelled out.
+#[tactic(auto, using(crate::proofs::Fields::headed))]
 pub fn read_row(word: &[u8]) -> Option<Row>
     ensures { result ≡ row_in word.now }
 {
@@ -83,6 +84,7 @@ pub fn read_row(word: &[u8]) -> Option<Row>
 }
 
 /// A value: a figure, or `@` and a location.
+#[tactic(auto, using(crate::proofs::Fields::headed))]
 pub fn read_value(word: &[u8]) -> Option<Value>
     ensures { result ≡ value_in word.now }
 {

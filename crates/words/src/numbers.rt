@@ -11,7 +11,7 @@ fn with_digit(value: u64, digit: u8) -> Option<u64>
     value.checked_mul(10)?.checked_add(digit as u64)
 }
 
-/// A number of digits alone, below 2^64.
+/// A number of digits alone, below 2^64. The library's `parse` would take a `+` before them.
 pub fn natural(word: &[u8]) -> Option<u64>
     ensures { result ≡ bits_in 64 word.now }
 {
