@@ -27,7 +27,7 @@ abbrev pub Kept : Result ℕ Refusal → List Row → List Row → Type 0
 Kept r before after = IfOk r (λ n. (n ≤ length after) × (drop n after ≡ drop n before))
 
 pub none_kept : (r : Result ℕ Refusal) (x : Refusal) (before after : List Row) → r ≡ Err x → Kept r before after
-none_kept (Ok n) x before after e = absurd (cc)
+none_kept (Ok n) x before after e = cc
 none_kept (Err y) x before after e = tt
 
 pub gave : (rows : List Row) (r : Result ℕ Refusal) (before after : List Row) → Kept r before after → Some (told r (λ n. take n after)) ≡ Some (Ok rows) → Gave rows r before after
@@ -35,7 +35,7 @@ gave rows (Ok k) before after w e =
     let is : take k after ≡ rows = cc in
     let l : k ≡ length rows = omega (arith, length-take k after, w.0, ap length is) in
     (ap Ok l, sym (take-append-drop k after) ∙ ap (λ (x : List Row). x ++ drop k after) is ∙ ap (λ (x : List Row). rows ++ x) (w.1 ∙ ap (λ (j : ℕ). drop j before) l))
-gave rows (Err x) before after w e = absurd (cc)
+gave rows (Err x) before after w e = cc
 
 module _ (tables : Tables) (counts : Counts) (program : ℕ) (r : Result ℕ Refusal) (before after : List Row) (stack : List Pending)
     (is : Some (told r (λ n. take n after)) ≡ answer tables counts (lent_rooms before stack) program) (wrote : Kept r before after) where
@@ -56,7 +56,7 @@ module _ (tables : Tables) (counts : Counts) (program : ℕ) (before after : Lis
   only_term : (n : ℕ) (b : Bool) → Some (Ok (take n after)) ≡ cond b (listed (used tables counts) (lent_rooms before stack) program) (Some (Err CountOutside)) →
       (t : Term) × (g : ℕ) × Program (used tables counts) program g (trans t done) × (take n after ≡ rows_of t)
   only_term n true h = lists_only (used tables counts) (lent_rooms before stack) program (take n after) (sym h)
-  only_term n false h = absurd (cc)
+  only_term n false h = cc
 
   pub gives_only : (r : Result ℕ Refusal) → Some (told r (λ n. take n after)) ≡ answer tables counts (lent_rooms before stack) program →
       IfOk r (λ n. (t : Term) × (g : ℕ) × Program (used tables counts) program g (trans t done) × (take n after ≡ rows_of t))

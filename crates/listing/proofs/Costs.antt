@@ -29,7 +29,7 @@ put_longer room rows r more p = go (ltb (length rows) room) refl p
         let n : length more ≡ length rows + 1 = sym (ap length s) ∙ length-append rows (r ∷ []) in
         let l = ltb-true _ _ t in
         (record { long = n; within = λ h. omega arith }, omega arith)
-    go false t e = absurd (cc)
+    go false t e = cc
 
 pub written_longer : (T : Text) (room l : ℕ) (e : ListEntry) (k : ℕ) (rows more : List Row) → written T room l e k rows ≡ Ok more → Longer room rows k more
 unfolding written
@@ -44,11 +44,11 @@ written_longer T room l e (suc k) rows more p = at_row (λ rs h. written_longer 
         let a = put_longer room rows r rs q in
         let b = ih rs h in
         record { long = omega (arith, a.0.long, b.long); within = λ i. b.within a.1 }
-    at_put ih r (Err y) q h = absurd (cc)
+    at_put ih r (Err y) q h = cc
 
     at_row : ((rs : List Row) → written T room l e k rs ≡ Ok more → Longer room rs k more) → (x : Result Row Refusal) → then x (λ r. then (put room rows r) (written T room l e k)) ≡ Ok more → Longer room rows (suc k) more
     at_row ih (Ok r) h = at_put ih r (put room rows r) refl h
-    at_row ih (Err y) h = absurd (cc)
+    at_row ih (Err y) h = cc
 
 -- after a list is begun
 pub record Begun (T : Text) (m : Room) (rows : List Row) (ps : List Pending) (s : State) : Type 0 where
@@ -65,19 +65,19 @@ module _ (T : Text) (m : Room) (l : ℕ) (rows : List Row) (ps : List Pending) (
       let n : len_of T l ≡ e.len = ap (λ x. if_some x (λ y. y.len) 0) f in
       let g : length rs ≤ m.of_rows = a.within within in
       subst (λ (x : State). Begun T m rows ps x) t (record { cheaper = omega (arith, a.long); lists = omega arith; fits = g })
-  at_written e f z o (Err y) q p = absurd (cc)
+  at_written e f z o (Err y) q p = cc
 
   at_entry : length ps < m.of_lists → (e : ListEntry) → slice_get T.contents l ≡ Some e → (b : Bool) → eqb e.len 0 ≡ b → cond b (Err (Astray l 0)) (pushed (written T m.of_rows l e e.len rows) (fresh l) ps) ≡ Ok s → Begun T m rows ps s
-  at_entry o e f true z p = absurd (cc)
+  at_entry o e f true z p = cc
   at_entry o e f false z p = at_written e f (eqb-false _ _ z) o (written T m.of_rows l e e.len rows) refl p
 
   at_contents : length ps < m.of_lists → (x : Option ListEntry) → slice_get T.contents l ≡ x → if_some x (begun_from T m.of_rows l rows ps) (Err (Astray l 0)) ≡ Ok s → Begun T m rows ps s
   at_contents o (Some e) f p = at_entry o e f (eqb e.len 0) refl p
-  at_contents o None f p = absurd (cc)
+  at_contents o None f p = cc
 
   at_stack : (b : Bool) → ltb (length ps) m.of_lists ≡ b → cond b (if_some (slice_get T.contents l) (begun_from T m.of_rows l rows ps) (Err (Astray l 0))) (Err (StackFull l)) ≡ Ok s → Begun T m rows ps s
   at_stack true b p = at_contents (ltb-true _ _ b) (slice_get T.contents l) refl p
-  at_stack false b p = absurd (cc)
+  at_stack false b p = cc
 
   pub begun_cheaper : begun T m l rows ps ≡ Ok s → Begun T m rows ps s
   begun_cheaper p = at_stack (ltb (length ps) m.of_lists) refl p
@@ -88,11 +88,11 @@ passes_within T p d h k = go (slice_get T.contents p.list) h
   where
     inner : (e : ListEntry) (b : Bool) (r : Result Step Refusal) → ltb p.next e.len ≡ b → cond b r (Ok step.Ended) ≡ Ok d → p.next < e.len
     inner e true r q g = ltb-true _ _ q
-    inner e false r q g = let w : step.Ended ≡ d = cc in let v : false ≡ true = ap passes w ∙ k in absurd (cc)
+    inner e false r q g = let w : step.Ended ≡ d = cc in let v : false ≡ true = ap passes w ∙ k in cc
 
     go : (x : Option ListEntry) → if_some x (step_in T p) (Err (astray p)) ≡ Ok d → p.next < if_some x (λ e. e.len) 0
     go (Some e) g = inner e (ltb p.next e.len) _ refl g
-    go None g = absurd (cc)
+    go None g = cc
 
 -- after a turn
 pub record Turned (T : Text) (m : Room) (rows : List Row) (p : Pending) (ps : List Pending) (s : State) : Type 0 where
@@ -107,7 +107,7 @@ module _ (T : Text) (m : Room) (rows : List Row) (p : Pending) (ps : List Pendin
       let a = put_longer m.of_rows rows r rs q in
       let g = begun_cheaper T m b rs (next_method p ∷ ps) s a.1 h in
       record { cheaper = omega (arith, a.0.long, a.1, g.cheaper); lists = g.lists; fits = g.fits }
-  at_row b r (Err y) q h = absurd (cc)
+  at_row b r (Err y) q h = cc
 
   at_step : (d : Result Step Refusal) → step_of T p ≡ d → carried T m rows p ps d ≡ Ok s → Turned T m rows p ps s
   unfolding load
@@ -123,7 +123,7 @@ module _ (T : Text) (m : Room) (rows : List Row) (p : Pending) (ps : List Pendin
       let n = passes_within T p (step.Body b) e refl in
       let g = begun_cheaper T m b rows (passed p ∷ ps) s within h in
       record { cheaper = omega (arith, n, g.cheaper); lists = g.lists; fits = g.fits }
-  at_step (Err x) e h = absurd (cc)
+  at_step (Err x) e h = cc
 
   pub turned_cheaper : carried T m rows p ps (step_of T p) ≡ Ok s → Turned T m rows p ps s
   turned_cheaper h = at_step (step_of T p) refl h

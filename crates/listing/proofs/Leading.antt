@@ -56,7 +56,7 @@ module _ (T : Text) (m : Room) where
 
   a_turn : (rows : List Row) (p : Pending) (ps : List Pending) (u : State) → carried T m rows p ps (step_of T p) ≡ Ok u → Leads (at rows (p ∷ ps)) u
   unfolding walked
-  a_turn rows p ps u e zero r h = absurd (cc)
+  a_turn rows p ps u e zero r h = cc
   a_turn rows p ps u e (suc k) r h = (k, sym (ap (λ x. going x (walked k T m)) e) ∙ h)
 
   pass : (l j i k : ℕ) (rows : List Row) (ps : List Pending) → k ≡ suc j → step_of T (pend l j i) ≡ Ok step.Passed → Leads (at rows (pend l j i ∷ ps)) (at rows (pend l k i ∷ ps))
@@ -201,7 +201,7 @@ module _ (T : Text) (m : Room) where
 
   pub at_end : (rows : List Row) (j : ℕ) (r : Result (List Row) Refusal) → walked j T m (at rows []) ≡ Some r → r ≡ Ok rows
   unfolding walked
-  at_end rows zero r h = absurd (cc)
+  at_end rows zero r h = cc
   at_end rows (suc j) r h = cc
 
   whole_listed : (n : ℕ) (t : Term) (e : ListEntry) → slice_get T.contents n ≡ Some e → Spine T n e.first e.len t → length (rows_of t) ≤ m.of_rows → nesting t < m.of_lists → listed_whole T m n ≡ Some (Ok (rows_of t))

@@ -66,12 +66,12 @@ module _ (T : Text) (room l : ℕ) (e : ListEntry) where
     where
       at_op : (o : Operation) (b : Bool) → proper T l q o ≡ b → cond b (Ok (row_of o)) (Err (Astray l q)) ≡ Ok r → b ≡ true
       at_op o true p k = refl
-      at_op o false p k = absurd (cc)
+      at_op o false p k = cc
 
       go : (x : Option Operation) → slice_get T.operations (e.first + q) ≡ x → if_some x (λ o. cond (proper T l q o) (Ok (row_of o)) (Err (Astray l q))) (Err (Astray l q)) ≡ Ok r →
           (o : Operation) × (slice_get T.operations (e.first + q) ≡ Some o) × (proper T l q o ≡ true)
       go (Some o) f k = (o, f, at_op o (proper T l q o) refl k)
-      go None f k = absurd (cc)
+      go None f k = cc
 
   abbrev Place : ℕ → Type 0
   Place q = (o : Operation) × (slice_get T.operations (e.first + q) ≡ Some o) × (proper T l q o ≡ true)
@@ -87,11 +87,11 @@ module _ (T : Text) (room l : ℕ) (e : ListEntry) where
 
       at_put : ((rs : List Row) → written T room l e k rs ≡ Ok more → q < k → Place q) → (r : Row) → row_at T l e k ≡ Ok r → (x : Result (List Row) Refusal) → then x (written T room l e k) ≡ Ok more → Place q
       at_put ih r f (Ok rs) g = at_place r f (ltb q k) refl (ih rs g)
-      at_put ih r f (Err y) g = absurd (cc)
+      at_put ih r f (Err y) g = cc
 
       at_row : ((rs : List Row) → written T room l e k rs ≡ Ok more → q < k → Place q) → (x : Result Row Refusal) → row_at T l e k ≡ x → then x (λ r. then (put room rows r) (written T room l e k)) ≡ Ok more → Place q
       at_row ih (Ok r) f g = at_put ih r f (put room rows r) g
-      at_row ih (Err y) f g = absurd (cc)
+      at_row ih (Err y) f g = cc
 
 -- what is known of a list that was begun
 pub record Opened (T : Text) (m : Room) (n : ℕ) (rows : List Row) (ps : List Pending) (s : State) : Type 0 where
@@ -108,23 +108,19 @@ module _ (T : Text) (m : Room) (n : ℕ) (rows : List Row) (ps : List Pending) (
     where
       at_written : (e : ListEntry) → slice_get T.contents n ≡ Some e → 0 < e.len → (w : Result (List Row) Refusal) → written T m.of_rows n e e.len rows ≡ w → pushed w (fresh n) ps ≡ Ok s → Opened T m n rows ps s
       at_written e f z (Ok rs) w g = record { entry = e; found = f; some = z; more = rs; wrote = w; is = cc }
-      at_written e f z (Err y) w g = absurd (cc)
+      at_written e f z (Err y) w g = cc
 
       at_entry : (e : ListEntry) → slice_get T.contents n ≡ Some e → (b : Bool) → eqb e.len 0 ≡ b → cond b (Err (Astray n 0)) (pushed (written T m.of_rows n e e.len rows) (fresh n) ps) ≡ Ok s → Opened T m n rows ps s
-      at_entry e f true z g = absurd (cc)
-      at_entry e f false z g = at_written e f (some_of e.len (eqb-false _ _ z)) (written T m.of_rows n e e.len rows) refl g
-        where
-          some_of : (k : ℕ) → (k ≡ 0 → ⊥) → 0 < k
-          some_of zero f = absurd (f refl)
-          some_of (suc k) f = omega arith
+      at_entry e f true z g = cc
+      at_entry e f false z g = at_written e f (omega (arith, eqb-false e.len 0 z)) (written T m.of_rows n e e.len rows) refl g
 
       at_contents : (x : Option ListEntry) → slice_get T.contents n ≡ x → if_some x (begun_from T m.of_rows n rows ps) (Err (Astray n 0)) ≡ Ok s → Opened T m n rows ps s
       at_contents (Some e) f g = at_entry e f (eqb e.len 0) refl g
-      at_contents None f g = absurd (cc)
+      at_contents None f g = cc
 
       at_stack : (b : Bool) → cond b (if_some (slice_get T.contents n) (begun_from T m.of_rows n rows ps) (Err (Astray n 0))) (Err (StackFull n)) ≡ Ok s → Opened T m n rows ps s
       at_stack true g = at_contents (slice_get T.contents n) refl g
-      at_stack false g = absurd (cc)
+      at_stack false g = cc
 
 module _ (T : Text) (m : Room) (out : List Row) where
   -- within so many turns, the walk from here ends in these rows
@@ -141,12 +137,12 @@ module _ (T : Text) (m : Room) (out : List Row) where
 
   turn : (k : ℕ) (rows : List Row) (p : Pending) (ps : List Pending) → Runs k rows (p ∷ ps) → Turn k rows p ps
   unfolding walked
-  turn zero rows p ps r = absurd (cc)
+  turn zero rows p ps r = cc
   turn (suc k) rows p ps r = go (carried T m rows p ps (step_of T p)) refl r
     where
       go : (x : Result State Refusal) → carried T m rows p ps (step_of T p) ≡ x → going x (walked k T m) ≡ Some (Ok out) → Turn (suc k) rows p ps
       go (Ok s) c g = record { left = k; fewer = refl; state = s; carries = c; goes = g }
-      go (Err y) c g = absurd (cc)
+      go (Err y) c g = cc
 
   -- list l is listed to its end, from an operation before which stands the term t
   record Rested (l : ℕ) (e : ListEntry) (t : Term) (k : ℕ) (rows : List Row) (ps : List Pending) : Type 0 where
@@ -284,20 +280,20 @@ module _ (T : Text) (m : Room) (out : List Row) where
       where
         put_is : (d : Bool) → cond d (Ok (rows ++ method_row x ∷ [])) (Err RowsShort) ≡ Ok more → rows ++ (method_row x ∷ []) ≡ more
         put_is true q = cc
-        put_is false q = absurd (cc)
+        put_is false q = cc
 
     at_put : (x n : ℕ) → slice_get T.methods (a + i) ≡ Some (record { label = x; list = n }) → l < n → (v : Result (List Row) Refusal) → put m.of_rows rows (method_row x) ≡ v →
         then v (λ rs. begun T m n rs (pend l 0 (i + 1) ∷ ps)) ≡ Ok s → NamedAll l a c i k rows ps
     at_put x n me above (Ok more) pt q = at_begun x n me above more pt q
-    at_put x n me above (Err y) pt q = absurd (cc)
+    at_put x n me above (Err y) pt q = cc
 
     at_above : (me : MethodEntry) → slice_get T.methods (a + i) ≡ Some me → (d : Bool) → ltb l me.list ≡ d → carried T m rows (pend l 0 i) ps (cond d (Ok (step.Method me.label me.list)) (Err (astray (pend l 0 i)))) ≡ Ok s → NamedAll l a c i k rows ps
     at_above me n true d q = at_put me.label me.list n (ltb-true l me.list d) (put m.of_rows rows (method_row me.label)) refl q
-    at_above me n false d q = absurd (cc)
+    at_above me n false d q = cc
 
     at_entry : (v : Option MethodEntry) → slice_get T.methods (a + i) ≡ v → carried T m rows (pend l 0 i) ps (method_step (pend l 0 i) v) ≡ Ok s → NamedAll l a c i k rows ps
     at_entry (Some me) n q = at_above me n (ltb l me.list) refl q
-    at_entry None n q = absurd (cc)
+    at_entry None n q = cc
 
   method_all_step : (K : ℕ) → ListAll K → MethodAll K → MethodAll (suc K)
   method_all_step K whole-lists methods k lt l e f z a c i head h rows ps w r = go (ltb i c) refl
@@ -375,10 +371,10 @@ module _ (T : Text) (m : Room) (out : List Row) where
         let le = leb-true (a + c) (length T.methods) (and_parts (eqb 0 0) _ p).1 in
         ends (object ms) c x.turns x.fewer
         (a, refl, head ∙ ap (λ (y : ℕ). Some (op.Object a y)) mc, omega arith, subst (λ (y : ℕ). Entries T n y ms) (add-zero a) x.entries) x.fits x.goes
-    at_head_of (op.Select x) is-o p r = absurd (cc)
-    at_head_of (op.Update x b) is-o p r = absurd (cc)
-    at_head_of op.Clone is-o p r = absurd (cc)
-    at_head_of (op.Let b) is-o p r = absurd (cc)
+    at_head_of (op.Select x) is-o p r = cc
+    at_head_of (op.Update x b) is-o p r = cc
+    at_head_of op.Clone is-o p r = cc
+    at_head_of (op.Let b) is-o p r = cc
 
   list_step : (K : ℕ) → RestAll K → MethodAll (suc K) → ListAll (suc K)
   list_step K rests methods k lt n rows ps s w bg g =
@@ -406,22 +402,15 @@ lists_only T m n rows h = at_contents (slice_get T.contents n) refl h
         let l = w.listed in
         let same : ◌≡◌ {A = Result (List Row) Refusal} (Ok rows) (Ok (rows_of t)) = at_end T m (rows_of t) w.turns (Ok rows) w.goes in
         let found : Some e ≡ Some l.entry = sym f ∙ l.found in
-        let mark : e.mark ≡ l.entry.mark = ap (λ (x : ListEntry). x.mark) (some_is e l.entry found) in
+        let mark : e.mark ≡ l.entry.mark = cc in
         (t, e.mark - 1, record { entry = l.entry; found = l.found; holds = (omega arith, code_of T t n l.entry.first l.entry.len (l.entry.first + l.entry.len) done l.holds refl) }, cc)
-      where
-        some_is : (x y : ListEntry) → Some x ≡ Some y → x ≡ y
-        some_is x y q = cc
-    at_begun e f mk (Err y) bg k = absurd (cc)
+    at_begun e f mk (Err y) bg k = cc
 
     at_mark : (e : ListEntry) → slice_get T.contents n ≡ Some e → (b : Bool) → eqb e.mark 0 ≡ b → cond b (Some (Err NoProgram)) (listed_whole T m n) ≡ Some (Ok rows) → (t : Term) × (g : ℕ) × Program T n g (trans t done) × (rows ≡ rows_of t)
-    at_mark e f true b k = absurd (cc)
-    at_mark e f false b k = at_begun e f (some_of e.mark (eqb-false _ _ b)) (begun T m n [] []) refl k
-      where
-        some_of : (x : ℕ) → (x ≡ 0 → ⊥) → 0 < x
-        some_of zero q = absurd (q refl)
-        some_of (suc x) q = omega arith
+    at_mark e f true b k = cc
+    at_mark e f false b k = at_begun e f (omega (arith, eqb-false e.mark 0 b)) (begun T m n [] []) refl k
 
     at_contents : (x : Option ListEntry) → slice_get T.contents n ≡ x → if_some x (λ e. cond (eqb e.mark 0) (Some (Err NoProgram)) (listed_whole T m n)) (Some (Err NoProgram)) ≡ Some (Ok rows) →
         (t : Term) × (g : ℕ) × Program T n g (trans t done) × (rows ≡ rows_of t)
     at_contents (Some e) f k = at_mark e f (eqb e.mark 0) refl k
-    at_contents None f k = absurd (cc)
+    at_contents None f k = cc
