@@ -16,6 +16,13 @@ use listing::pending::Pending;
 use std::alloc::Global;
 use std::io;
 
+/// Stores an entry at a place of a table, if the table has it.
+fn store<T: Copy>(table: &mut [T], place: u32, entry: T) {
+    if let Some(slot) = table.get_mut(place as usize) {
+        *slot = entry;
+    }
+}
+
 /// A code area of its own.
 #[derive(Drop)]
 pub(crate) struct Space {
@@ -65,23 +72,17 @@ impl Space {
 
     /// `list I F L M`: stores an entry at place I.
     pub(crate) fn store_list(&mut self, place: u32, list: ListEntry) {
-        if let Some(entry) = self.contents.get_mut(place as usize) {
-            *entry = list;
-        }
+        store(&mut self.contents, place, list);
     }
 
     /// `operation I X N`: stores an operation at place I.
     pub(crate) fn store_operation(&mut self, place: u32, operation: Operation) {
-        if let Some(entry) = self.operations.get_mut(place as usize) {
-            *entry = operation;
-        }
+        store(&mut self.operations, place, operation);
     }
 
     /// `method I L N`: stores a method's entry at place I.
     pub(crate) fn store_method(&mut self, place: u32, method: MethodEntry) {
-        if let Some(entry) = self.methods.get_mut(place as usize) {
-            *entry = method;
-        }
+        store(&mut self.methods, place, method);
     }
 
     /// `compile G ROWS`: compiles the rows with G givens.

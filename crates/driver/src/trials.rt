@@ -57,9 +57,9 @@ impl<S: Store> Trials<TrialLayer<S>> for Held {
         call: TrialCall,
     ) -> Option<Result<Answer, Refused>> {
         let answer = match call {
-            TrialCall::Open => open(session, &mut self.0),
-            TrialCall::Keep { trial } => keep(session, &mut self.0, trial),
-            TrialCall::PutBack { trial } => put_back(session, &mut self.0, trial),
+            TrialCall::Open => self.open(session),
+            TrialCall::Keep { trial } => self.keep(session, trial),
+            TrialCall::PutBack { trial } => self.put_back(session, trial),
         };
         Some(answer.map_err(Refused::from))
     }
@@ -77,49 +77,52 @@ fn spend<S: Store>(session: &mut Session<'_, TrialLayer<S>>, token: Option<Token
     }
 }
 
-fn open<S: Store>(
-    session: &mut Session<'_, TrialLayer<S>>,
-    held: &mut Option<Token>,
-) -> Result<Answer, TrialFault> {
-    let token = session.open()?;
-    let number = token.number();
-    spend(session, held.replace(token));
-    Ok(Answer::Trial(number))
-}
+impl Held {
+    fn open<S: Store>(
+        &mut self,
+        session: &mut Session<'_, TrialLayer<S>>,
+    ) -> Result<Answer, TrialFault> {
+        let token = session.open()?;
+        let number = token.number();
+        spend(session, self.0.replace(token));
+        Ok(Answer::Trial(number))
+    }
 
-/// The token of this number: the one that is held, or one made for it; 0 is no trial's number.
-fn token_of(held: &mut Option<Token>, trial: u32) -> Result<Token, TrialFault> {
-    held.take_if(|token| token.number() == trial)
-        .or_else(|| Token::of(trial))
-        .ok_or(TrialFault::WrongToken)
-}
+    /// The token of this number: the one that is held, or one made for it; 0 is no trial's number.
+    fn token_of(&mut self, trial: u32) -> Result<Token, TrialFault> {
+        self.0
+            .take_if(|token| token.number() == trial)
+            .or_else(|| Token::of(trial))
+            .ok_or(TrialFault::WrongToken)
+    }
 
-fn keep<S: Store>(
-    session: &mut Session<'_, TrialLayer<S>>,
-    held: &mut Option<Token>,
-    trial: u32,
-) -> Result<Answer, TrialFault> {
-    let token = token_of(held, trial)?;
-    session.keep(token)?;
-    Ok(Answer::Kept)
-}
+    fn keep<S: Store>(
+        &mut self,
+        session: &mut Session<'_, TrialLayer<S>>,
+        trial: u32,
+    ) -> Result<Answer, TrialFault> {
+        let token = self.token_of(trial)?;
+        session.keep(token)?;
+        Ok(Answer::Kept)
+    }
 
-/// A token that is handed back is held again if it is that of the open trial, and spent otherwise, which has no effect.
-fn put_back<S: Store>(
-    session: &mut Session<'_, TrialLayer<S>>,
-    held: &mut Option<Token>,
-    trial: u32,
-) -> Result<Answer, TrialFault> {
-    let token = token_of(held, trial)?;
-    match session.put_back(token) {
-        Ok(()) => Ok(Answer::Restored),
-        Err((token, TrialFault::Overrun)) => {
-            spend(session, held.replace(token));
-            Err(TrialFault::Overrun)
-        }
-        Err((token, fault)) => {
-            spend(session, Some(token));
-            Err(fault)
+    /// A token that is handed back is held again if it is that of the open trial, and spent otherwise, which has no effect.
+    fn put_back<S: Store>(
+        &mut self,
+        session: &mut Session<'_, TrialLayer<S>>,
+        trial: u32,
+    ) -> Result<Answer, TrialFault> {
+        let token = self.token_of(trial)?;
+        match session.put_back(token) {
+            Ok(()) => Ok(Answer::Restored),
+            Err((token, TrialFault::Overrun)) => {
+                spend(session, self.0.replace(token));
+                Err(TrialFault::Overrun)
+            }
+            Err((token, fault)) => {
+                spend(session, Some(token));
+                Err(fault)
+            }
         }
     }
 }

@@ -1,9 +1,8 @@
 //! The calls of a case.
-use crate::areas::Area;
+use crate::case::Case;
 use crate::numbers::fitted;
 use crate::saying::{say_objects, say_run, say_start};
 use calculus::refusals::Refusal;
-use machine::machine::Machine;
 use machine_model::answers::RunAnswer;
 use std::io;
 use store::store::Store;
@@ -34,56 +33,40 @@ pub fn call_of(name: &str, numbers: [i64; 6]) -> Option<Call> {
     }
 }
 
-fn start<S: Store>(
-    area: &mut Area,
-    machine: &mut Machine<'_>,
-    store: &S,
-    program: u32,
-    allowance: u32,
-) -> Result<(), Refusal> {
-    let (code, givens) = area.lent();
-    machine.start(&code, store, program, givens, allowance)
-}
+impl<S: Store> Case<'_, S> {
+    fn start(&mut self, program: u32, allowance: u32) -> Result<(), Refusal> {
+        let (code, givens) = self.area.lent();
+        self.machine
+            .start(&code, &self.store, program, givens, allowance)
+    }
 
-fn run<S: Store>(area: &mut Area, machine: &mut Machine<'_>, store: &mut S, n: u32) -> RunAnswer {
-    let (code, _) = area.lent();
-    machine.run(&code, store, n)
-}
+    fn run(&mut self, n: u32) -> RunAnswer {
+        let (code, _) = self.area.lent();
+        self.machine.run(&code, &mut self.store, n)
+    }
 
-/// Runs of one reduction until one does not pause, and how many paused.
-fn pieces<S: Store>(
-    rt: &HostRuntime,
-    area: &mut Area,
-    machine: &mut Machine<'_>,
-    store: &mut S,
-) -> io::Result<()> {
-    for paused in 0..1000_u32 {
-        let answer = run(area, machine, store, 1);
-        match answer {
-            RunAnswer::Paused { .. } => {}
-            _ => {
-                println!(rt; "  paused {paused} times")?;
-                return say_run(rt, answer);
+    /// Runs of one reduction until one does not pause, and how many paused.
+    fn pieces(&mut self, rt: &HostRuntime) -> io::Result<()> {
+        for paused in 0..1000_u32 {
+            let answer = self.run(1);
+            match answer {
+                RunAnswer::Paused { .. } => {}
+                _ => {
+                    println!(rt; "  paused {paused} times")?;
+                    return say_run(rt, answer);
+                }
             }
         }
+        println!(rt; "  paused too often")
     }
-    println!(rt; "  paused too often")
-}
 
-/// Makes a call, and says what it answers.
-pub fn make_call<S: Store>(
-    rt: &HostRuntime,
-    area: &mut Area,
-    machine: &mut Machine<'_>,
-    store: &mut S,
-    call: Call,
-) -> io::Result<()> {
-    match call {
-        Call::Start { program, allowance } => {
-            say_start(rt, start(area, machine, store, program, allowance))
+    /// Makes a call, and says what it answers.
+    pub fn make_call(&mut self, rt: &HostRuntime, call: Call) -> io::Result<()> {
+        match call {
+            Call::Start { program, allowance } => say_start(rt, self.start(program, allowance)),
+            Call::Run(n) => say_run(rt, self.run(n)),
+            Call::Pieces => self.pieces(rt),
+            Call::Objects => say_objects(rt, &self.store),
         }
-        Call::Run(n) => say_run(rt, run(area, machine, store, n)),
-        Call::Pieces => pieces(rt, area, machine, store),
-        Call::Objects => say_objects(rt, store),
     }
 }

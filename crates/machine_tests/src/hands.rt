@@ -1,8 +1,8 @@
 //! What is put into a machine and a store by hand.
+use crate::case::Case;
 use crate::numbers::fitted;
 use calculus::code::MethodEntry;
 use calculus::values::Value;
-use machine::machine::Machine;
 use machine_model::state::{Cell, Frame, Progress, Report};
 use store::store::Store;
 
@@ -65,25 +65,27 @@ pub fn hand_of(name: &str, numbers: [i64; 6]) -> Option<Hand> {
     }
 }
 
-/// Puts it in.
-pub fn put_in<S: Store>(machine: &mut Machine<'_>, store: &mut S, hand: Hand) {
-    let state = &mut machine.state;
-    match hand {
-        Hand::Cell(cell) => {
-            let _ = state.cells.push(cell);
+impl<S: Store> Case<'_, S> {
+    /// Puts it in.
+    pub fn put_in(&mut self, hand: Hand) {
+        let state = &mut self.machine.state;
+        match hand {
+            Hand::Cell(cell) => {
+                let _ = state.cells.push(cell);
+            }
+            Hand::Frame(frame) => {
+                let _ = state.frames.push(frame);
+            }
+            Hand::Object(method, env) => {
+                let _ = self.store.make(&[method], env);
+            }
+            Hand::At(at, allowance) => {
+                state.registers.at = at;
+                state.registers.allowance = allowance;
+                state.registers.progress = Progress::Running;
+            }
+            Hand::Holds(value) => state.registers.accumulator = Some(value),
+            Hand::Report(report) => state.registers.report = report,
         }
-        Hand::Frame(frame) => {
-            let _ = state.frames.push(frame);
-        }
-        Hand::Object(method, env) => {
-            let _ = store.make(&[method], env);
-        }
-        Hand::At(at, allowance) => {
-            state.registers.at = at;
-            state.registers.allowance = allowance;
-            state.registers.progress = Progress::Running;
-        }
-        Hand::Holds(value) => state.registers.accumulator = Some(value),
-        Hand::Report(report) => state.registers.report = report,
     }
 }

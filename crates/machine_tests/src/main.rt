@@ -7,15 +7,17 @@
 
 mod areas;
 mod calls;
+mod case;
 mod hands;
 mod numbers;
 mod saying;
 
 use areas::{Area, entry_of};
 use calculus::values::Value;
-use calls::{call_of, make_call};
+use calls::call_of;
+use case::Case;
 use flat_store::table::FlatStore;
-use hands::{hand_of, put_in};
+use hands::hand_of;
 use machine::machine::Machine;
 use machine_model::state::{Cell, Frame};
 use numbers::{fitted, numbers_of};
@@ -25,24 +27,18 @@ use store::layout::Span;
 use store::store::Store;
 
 /// Carries out a line.
-fn obey<S: Store>(
-    rt: &HostRuntime,
-    area: &mut Area,
-    machine: &mut Machine<'_>,
-    store: &mut S,
-    line: &str,
-) -> io::Result<()> {
+fn obey<S: Store>(rt: &HostRuntime, case: &mut Case<'_, S>, line: &str) -> io::Result<()> {
     let name = line.split_whitespace().next().unwrap_or("");
     if name == "#" {
         return println!(rt; "{line}");
     }
     let numbers = numbers_of(line);
     if let Some(entry) = entry_of(name, numbers) {
-        area.enter(entry)?;
+        case.area.enter(entry)?;
     } else if let Some(hand) = hand_of(name, numbers) {
-        put_in(machine, store, hand);
+        case.put_in(hand);
     } else if let Some(call) = call_of(name, numbers) {
-        make_call(rt, area, machine, store, call)?;
+        case.make_call(rt, call)?;
     }
     Ok(())
 }
@@ -64,11 +60,13 @@ fn play(rt: &HostRuntime, block: &str) -> io::Result<()> {
     let mut frames = vec![in heap; Frame::default(); length(frames)]?;
     let mut objects = vec![in heap; Span::default(); length(objects)]?;
     let mut methods = vec![in heap; Method::default(); length(methods)]?;
-    let mut store = FlatStore::new(&mut objects, &mut methods);
-    let mut machine = Machine::new(&mut cells, &mut frames);
-    let mut area = Area::new(heap);
+    let mut case = Case {
+        area: Area::new(heap),
+        machine: Machine::new(&mut cells, &mut frames),
+        store: FlatStore::new(&mut objects, &mut methods),
+    };
     for line in block.lines() {
-        obey(rt, &mut area, &mut machine, &mut store, line)?;
+        obey(rt, &mut case, line)?;
     }
     Ok(())
 }
