@@ -14,11 +14,11 @@ use Rattle.sharing_store.proofs.Walks.{with_last, sd_of}
 use Rattle.sharing_store.proofs.More.{joined, join_at, join_agrees, join_room, join_sound}
 use Rattle.sharing_store.proofs.Told.{span, held_same, own_same}
 
--- an object more that shares with r, with the entry e, as t, and the entry of r changed to g, as u
+-- the entry of r changed to g, as t, and an object more that shares with it, with the entry e, as u
 abbrev pub clone_entry : (s : SharingStore) (l r : ℕ) → SharedEntry
 clone_entry s l r = record { first = s.areas.method_count; size = (entry s l).size; held = (entry s l).held; root = r; last = s.areas.object_count; previous = (entry s r).last }
 
-module _ (s : SharingStore) (l : ℕ) (in_use : l < s.areas.object_count) (r : ℕ) (o : RootOf s l r) (lt : s.areas.object_count < s.areas.object_limit) (t u : Areas SharedEntry) (e : SharedEntry) (e_is : e ≡ clone_entry s l r) (size : ℕ) (size_is : size ≡ (entry s l).size) (a : Added s.areas t e size) (g : SharedEntry) (g_is : g ≡ with_last (entry s r) s.areas.object_count) (p : Changed t u (set t.objects.now r g) t.methods.now) where
+module _ (s : SharingStore) (l : ℕ) (in_use : l < s.areas.object_count) (r : ℕ) (o : RootOf s l r) (lt : s.areas.object_count < s.areas.object_limit) (t u : Areas SharedEntry) (g : SharedEntry) (g_is : g ≡ with_last (entry s r) s.areas.object_count) (p : Changed s.areas t (set s.areas.objects.now r g) s.areas.methods.now) (e : SharedEntry) (e_is : e ≡ clone_entry s l r) (size : ℕ) (size_is : size ≡ (entry s l).size) (a : Added t u e size) where
   space : s.areas.object_count < length s.areas.objects.now
   space = omega arith
 
@@ -29,13 +29,16 @@ module _ (s : SharingStore) (l : ℕ) (in_use : l < s.areas.object_count) (r : �
   after = joined s.areas.objects.now s.areas.object_count space (clone_entry s l r) r old
 
   entries_are : u.objects.now ≡ after
-  entries_are = p.entries_are ∙ (λ i. set (a.entries_are i) r (g_is i)) ∙ ap (λ (x : SharedEntry). set (set s.areas.objects.now s.areas.object_count x) r (with_last (entry s r) s.areas.object_count)) e_is
+  entries_are =
+      a.entries_are ∙ (λ i. set (p.entries_are i) (p.counts.object_count_is i) e)
+      ∙ ap (λ (x : SharedEntry). set (set s.areas.objects.now r x) s.areas.object_count e) g_is
+      ∙ ap (λ (x : SharedEntry). set (set s.areas.objects.now r (with_last (entry s r) s.areas.object_count)) s.areas.object_count x) e_is
 
   count_is : u.object_count ≡ s.areas.object_count + 1
-  count_is = p.counts.object_count_is ∙ a.object_count_is
+  count_is = a.object_count_is ∙ ap (λ k. k + 1) p.counts.object_count_is
 
   used_is : u.method_count ≡ s.areas.method_count + (entry s l).size
-  used_is = p.counts.method_count_is ∙ a.method_count_is ∙ ap (λ k. s.areas.method_count + k) size_is
+  used_is = a.method_count_is ∙ (λ i. p.counts.method_count_is i + size_is i)
 
   pub clone_laid : laid_out u.objects.now u.object_count u.method_count ≡ true
   clone_laid =
@@ -60,6 +63,6 @@ module _ (s : SharingStore) (l : ℕ) (in_use : l < s.areas.object_count) (r : �
       let n = s.areas.object_count in
       let new = clone_entry s l r in
       let objects =
-      (λ i. objects_in held_span (entries_are i) (count_is i) ((p.methods_are ∙ a.methods_are) i))
+      (λ i. objects_in held_span (entries_are i) (count_is i) ((a.methods_are ∙ p.methods_are) i))
       ∙ objects_more no_entry es after n (omega arith) (join_room es n space new r old) new (join_at es n space new r old) held_span ms ms (part ms (span s l)) (λ k low. held_same es after ms k (join_agrees es n space new r old k low)) refl in
-      λ i. record { objects = objects i; object_limit = (p.counts.object_limit_is ∙ a.object_limit_is) i; method_limit = (p.counts.method_limit_is ∙ a.method_limit_is) i; trial = no_trial }
+      λ i. record { objects = objects i; object_limit = (a.object_limit_is ∙ p.counts.object_limit_is) i; method_limit = (a.method_limit_is ∙ p.counts.method_limit_is) i; trial = no_trial }

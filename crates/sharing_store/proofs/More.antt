@@ -91,19 +91,22 @@ module _ (es : List SharedEntry) (n : ℕ) (room : n < length es) (new : SharedE
   pub put_lasts : (k : ℕ) → k < n → (entry_at (set es n new) k).last ≡ (entry_at es k).last
   put_lasts k lt = ap (λ (e : SharedEntry). e.last) (put_other k lt)
 
-  -- and becomes the last of those that share with r
+  -- and is the last of those that share with r
   module _ (r : ℕ) (in_use : r < n) where
+    abbrev listing : SharedEntry
+    listing = with_last (entry_at es r) n
+
     abbrev pub joined : List SharedEntry
-    joined = set (set es n new) r (with_last (entry_at es r) n)
+    joined = set (set es r listing) n new
 
     pub join_at : entry_at joined n ≡ new
-    join_at = get_or-set_other (set es n new) r n (with_last (entry_at es r) n) no_entry (omega arith) ∙ put_at
+    join_at = get_or-set_same (set es r listing) n new no_entry (omega (arith, length-set es r listing))
 
-    join_root : entry_at joined r ≡ with_last (entry_at es r) n
-    join_root = get_or-set_same (set es n new) r (with_last (entry_at es r) n) no_entry (omega (arith, length-set es n new))
+    join_root : entry_at joined r ≡ listing
+    join_root = get_or-set_other (set es r listing) n r new no_entry (omega arith) ∙ get_or-set_same es r listing no_entry (omega arith)
 
     join_other : (k : ℕ) → k < n → k ≢ r → entry_at joined k ≡ entry_at es k
-    join_other k lt ne = get_or-set_other (set es n new) r k (with_last (entry_at es r) n) no_entry ne ∙ put_other k lt
+    join_other k lt ne = get_or-set_other (set es r listing) n k new no_entry (omega arith) ∙ get_or-set_other es r k listing no_entry ne
 
     pub join_agrees : (k : ℕ) → k < n → Agrees (view es) (view joined) k
     join_agrees k lt = ⊎_elim
@@ -112,7 +115,7 @@ module _ (es : List SharedEntry) (n : ℕ) (room : n < length es) (new : SharedE
         (cases_eq k r)
 
     pub join_room : n < length joined
-    join_room = omega (arith, length-set es n new, length-set (set es n new) r (with_last (entry_at es r) n))
+    join_room = omega (arith, length-set es r listing, length-set (set es r listing) n new)
 
     pub join_sound : new.root ≡ r → new.size ≡ (entry_at es r).size → new.held ≡ (entry_at es r).first → new.last ≡ n → new.previous ≡ (entry_at es r).last → Filled (view es) r → Sound (view es) n → Sound (view joined) (n + 1)
     join_sound root size held last previous full sd =

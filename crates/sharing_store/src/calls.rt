@@ -125,6 +125,11 @@ impl<'a> Store for SharingStore<'a> {
         let copy = self.areas.room_for(from.size as usize)?;
         let root = self.root_of(location);
         let original = self.areas.at(root);
+        let listing = SharedEntry {
+            last: copy,
+            ..original
+        };
+        self.areas.set(root, listing);
         let entry = SharedEntry {
             first: self.areas.method_count(),
             size: from.size,
@@ -134,11 +139,6 @@ impl<'a> Store for SharingStore<'a> {
             previous: original.last,
         };
         self.areas.add(entry, from.size);
-        let listing = SharedEntry {
-            last: copy,
-            ..original
-        };
-        self.areas.set(root, listing);
         Ok(copy)
     }
 

@@ -72,7 +72,11 @@ fn compare(rt: &HostRuntime, updates: Updates) -> io::Result<()> {
     })?;
     let mut entries = [SharedEntry::default(); 1001];
     let sharing = rounds(rt, "sharing", || {
-        clones(&mut SharingStore::new(&mut entries, &mut methods), 1000, updates)
+        clones(
+            &mut SharingStore::new(&mut entries, &mut methods),
+            1000,
+            updates,
+        )
     })?;
     print_ratio(rt, sharing, flat)
 }

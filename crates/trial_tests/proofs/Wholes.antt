@@ -1,5 +1,5 @@
 -- A whole trial, by what put back promises.
-use Rattle.std.proofs.Common.{◌≡◌, ℕ, Bool, true, false, cond, List, take, Some, None, Ok, Err, Option, Result, refl, ap, ◌∙◌, arith}
+use Rattle.std.proofs.Common.{◌≡◌, ℕ, Bool, true, false, cond, List, take, Some, None, Ok, Err, Option, Result, refl, ap, ◌∙◌}
 use Rattle.calculus.specs.Places.{if_some}
 use Rattle.calculus.specs.declared.code.MethodEntry.{MethodEntry}
 use Rattle.store.specs.Meaning.{Meaning, closed}

@@ -10,14 +10,13 @@ use store_laws::runs::{StoreAnswer, StoreCall, perform_all};
 fn same_object<S: Store, T: Store>(left: &S, right: &T, location: u32) -> bool {
     let size = left.size(location);
     size == right.size(location)
-        && (0..size.unwrap_or(0))
-            .all(|place| left.method_at(location, place) == right.method_at(location, place))
+        && (0..size.unwrap_or(0)).all(|place| left.method_at(location, place)
+            == right.method_at(location, place))
 }
 
 fn same_objects<S: Store, T: Store>(left: &S, right: &T) -> bool {
     let count = left.object_count();
-    count == right.object_count()
-        && (0..count).all(|location| same_object(left, right, location))
+    count == right.object_count() && (0..count).all(|location| same_object(left, right, location))
 }
 
 // How many objects both kinds have after the calls (1,000 at most), with areas of these lengths (400 and 1,600 at most), if they gave the

@@ -29,11 +29,6 @@ at-original-requires c =
     let e = entered c.args.self.now.areas no_entry c.args.location c.in_ok-from.from c.in_ok-from.ensures in
     omega (arith, e.0, c.root_of-root.ensures.low)
 
-pub set-requires : goal.set-requires
-set-requires c =
-    let e = entered c.args.self.now.areas no_entry c.args.location c.in_ok-from.from c.in_ok-from.ensures in
-    omega (arith, e.0, c.root_of-root.ensures.low, c.add.ensures.object_count_is)
-
 pub invariant_of-self : goal.invariant_of-self
 invariant_of-self c =
     let s = c.args.self.now in
@@ -41,14 +36,14 @@ invariant_of-self c =
     let room = roomed s.areas c.in_ok-from.from.size c.in_ok-copy.copy c.in_ok-copy.ensures in
     let o = c.at-original.ensures no_entry in
     record {
-      laid_out = clone_laid s c.args.location e.0 c.root_of-root.result c.root_of-root.ensures room.objects c.add.new.self c.set.new.self
-          _ (λ i. record { first = c.method_count.ensures i; size = (e.1 i).size; held = (e.1 i).held; root = c.root_of-root.result; last = room.here i; previous = (o i).last })
-          _ (ap (λ (x : SharedEntry). x.size) e.1) c.add.ensures
-          _ (λ i. with_last (o i) (room.here i)) c.set.ensures;
-      shares = clone_sound s c.args.location e.0 c.root_of-root.result c.root_of-root.ensures room.objects c.add.new.self c.set.new.self
-          _ (λ i. record { first = c.method_count.ensures i; size = (e.1 i).size; held = (e.1 i).held; root = c.root_of-root.result; last = room.here i; previous = (o i).last })
-          _ (ap (λ (x : SharedEntry). x.size) e.1) c.add.ensures
-          _ (λ i. with_last (o i) (room.here i)) c.set.ensures;
+      laid_out = clone_laid s c.args.location e.0 c.root_of-root.result c.root_of-root.ensures room.objects c.set.new.self c.add.new.self
+          _ (λ i. with_last (o i) (room.here i)) c.set.ensures
+          _ (λ i. record { first = (c.method_count.ensures ∙ c.set.ensures.counts.method_count_is) i; size = (e.1 i).size; held = (e.1 i).held; root = c.root_of-root.result; last = room.here i; previous = (o i).last })
+          _ (ap (λ (x : SharedEntry). x.size) e.1) c.add.ensures;
+      shares = clone_sound s c.args.location e.0 c.root_of-root.result c.root_of-root.ensures room.objects c.set.new.self c.add.new.self
+          _ (λ i. with_last (o i) (room.here i)) c.set.ensures
+          _ (λ i. record { first = (c.method_count.ensures ∙ c.set.ensures.counts.method_count_is) i; size = (e.1 i).size; held = (e.1 i).held; root = c.root_of-root.result; last = room.here i; previous = (o i).last })
+          _ (ap (λ (x : SharedEntry). x.size) e.1) c.add.ensures;
     }
 
 pub returns : goal.returns
@@ -61,10 +56,10 @@ returns c =
     record {
       answer = clone_is _ _ _ _ _ (told s) c.args.location e.0 _ r;
       state =
-          clone_meant s c.args.location e.0 c.root_of-root.result c.root_of-root.ensures room.objects c.add.new.self c.set.new.self
-          _ (λ i. record { first = c.method_count.ensures i; size = (e.1 i).size; held = (e.1 i).held; root = c.root_of-root.result; last = room.here i; previous = (o i).last })
-          _ (ap (λ (x : SharedEntry). x.size) e.1) c.add.ensures
+          clone_meant s c.args.location e.0 c.root_of-root.result c.root_of-root.ensures room.objects c.set.new.self c.add.new.self
           _ (λ i. with_last (o i) (room.here i)) c.set.ensures
+          _ (λ i. record { first = (c.method_count.ensures ∙ c.set.ensures.counts.method_count_is) i; size = (e.1 i).size; held = (e.1 i).held; root = c.root_of-root.result; last = room.here i; previous = (o i).last })
+          _ (ap (λ (x : SharedEntry). x.size) e.1) c.add.ensures
           ∙ cloned_is _ _ _ _ _ (told s) c.args.location e.0 _ r;
-      uncopied = c.set.ensures.methods_are ∙ c.add.ensures.methods_are;
+      uncopied = c.add.ensures.methods_are ∙ c.set.ensures.methods_are;
     }
