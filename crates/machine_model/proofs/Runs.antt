@@ -1,25 +1,13 @@
 -- One turn of a run.
-use Rattle.std.proofs.Common.{◌≡◌, ℕ, zero, suc, ◌-◌, ◌<◌, Ok, Err, Result, sym, ap, ◌∙◌, sub-one, arith, ne_eqb}
-use Rattle.std.proofs.lemmas.Bool.{cond-false}
+use Rattle.std.proofs.Common.{◌≡◌, ℕ, zero, suc, ◌-◌, ◌<◌, Ok, Err, Result, sym, ap, ◌∙◌, sub-one, arith}
 use Rattle.store.specs.Meaning.{Meaning}
-use Rattle.machine_model.specs.declared.steps.Action.{Action}
 use Rattle.machine_model.specs.declared.answers.Stop.{Stop}
 use Rattle.machine_model.specs.declared.answers.Stop.TheVariants as stop
-use Rattle.machine_model.specs.declared.steps.Redex.{Redex}
 use Rattle.calculus.specs.Text.{Text}
 use Rattle.machine_model.specs.State.{State, due}
 use Rattle.machine_model.specs.Settle.{settled, rest}
-use Rattle.machine_model.specs.Reduce.{decided, acted}
-use Rattle.machine_model.specs.Run.{Turn, turned, halted, or_stop, unless_stopped, allowed, turn, Ran, followed_by, run_for}
-
--- a reduction that is allowed is the turn's
-pub turn_acts : (n : ℕ) (code : Text) (s t : State) (m : Meaning) (r : Redex) (a : Action) → Ok r ≡ rest (due code (settled code s)) → t ≡ settled code s → Ok a ≡ decided code m r → 0 < n → 0 < t.registers.allowance →
-    turned (acted code t m a) ≡ turn n code s m
-turn_acts n code s t m r a hr ht ha hn hl =
-    let s' : State = settled code s in
-    let one : allowed n code t m a ≡ turned (acted code t m a) = cond-false _ _ _ (ne_eqb n 0 (λ z. omega arith)) ∙ cond-false _ _ _ (ne_eqb t.registers.allowance 0 (λ z. omega arith)) in
-    sym one ∙ ap (λ x. allowed n code x m a) ht ∙ ap (λ o. unless_stopped (or_stop o) s' m (allowed n code s' m)) ha
-    ∙ ap (λ o. unless_stopped o s' m (λ q. unless_stopped (or_stop (decided code m q)) s' m (allowed n code s' m))) hr
+use Rattle.machine_model.specs.Reduce.{decided}
+use Rattle.machine_model.specs.Run.{Turn, halted, or_stop, unless_stopped, allowed, turn, Ran, followed_by, run_for}
 
 stops : {X : Type 0} (o : Result X Stop) (s : State) (m : Meaning) (go : X → Turn) → ((x : X) → (go x).answer ≡ Ok tt → ⊥) → (unless_stopped o s m go).answer ≡ Ok tt → ⊥
 stops (Ok x) s m go h e = h x e
