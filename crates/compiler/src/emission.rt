@@ -5,7 +5,7 @@ ghost use Rattle.calculus.specs.Kinds.{kind_number};
 ghost use Rattle.compiler.specs.Fronts.{front};
 ghost use Rattle.compiler.specs.Area.{area};
 ghost use Rattle.compiler.specs.Emit.{small, leaf_of, follower_of, Ready, ReadyList, ReadyAll, Wrote, WroteList, WroteProgram, WroteAll};
-ghost use Rattle.compiler.specs.Writing.{source, target};
+ghost use Rattle.compiler.specs.Writing.{source, target, GoesOn};
 
 use calculus::code::{Counts, ListEntry, MethodEntry, Operation, Tables};
 use calculus::rows::{Row, RowKind};
@@ -29,23 +29,25 @@ fn kind_of(row: Row) -> RowKind
 }
 
 /// The operation of a variable or a figure.
-fn leaf(row: Row) -> Operation
+fn leaf(kind: RowKind, row: Row) -> Operation
+    requires { kind_number kind ≡ row.kind }
     ensures { result ≡ leaf_of row }
 {
-    match RowKind::try_from(row.kind) {
-        Ok(RowKind::Variable) => Operation::Access(plain_number(row.number)),
+    match kind {
+        RowKind::Variable => Operation::Access(plain_number(row.number)),
         _ => Operation::Figure(row.number),
     }
 }
 
 /// The operation of a row that follows a head, where `list` is the number of its body's list.
-fn follower(row: Row, list: u32) -> Operation
+fn follower(kind: RowKind, row: Row, list: u32) -> Operation
+    requires { kind_number kind ≡ row.kind }
     ensures { result ≡ follower_of row list }
 {
-    match RowKind::try_from(row.kind) {
-        Ok(RowKind::Select) => Operation::Select(row.label),
-        Ok(RowKind::Update) => Operation::Update(row.label, list),
-        Ok(RowKind::Clone) => Operation::Clone,
+    match kind {
+        RowKind::Select => Operation::Select(row.label),
+        RowKind::Update => Operation::Update(row.label, list),
+        RowKind::Clone => Operation::Clone,
         _ => Operation::Let(list),
     }
 }
@@ -59,7 +61,7 @@ struct Emission<'t, 'a> {
 }
 
 impl Emission<'_, '_> {
-    /// How many rows stand in front of the head row of the list that begins at `at`.
+    /// How many rows stand in front of the head row of the list that begins at `at`: those of the kinds from `Select` on.
     fn front_len(&self, at: usize) -> usize
         requires { at ≤ length self.now.rows.now }
         ensures { result ≡ front (drop at self.now.rows.now) }
@@ -75,15 +77,15 @@ impl Emission<'_, '_> {
     #[cycle(emit_list_emit_methods_emit_term)]
     fn emit_term(&mut self, at: usize, slot: usize) -> usize
         requires { Ready (source self.old) at slot (target self.old) }
-        ensures same_tables { self.new.tables.ghost_name ≡ self.old.tables.ghost_name }
-        ensures same_rows { self.new.rows ≡ self.old.rows }
+        ensures goes { GoesOn self.old self.new }
         ensures next { (at < result) × (result ≤ length self.old.rows.now) }
         ensures wrote { Wrote (source self.old) at slot result (target self.old) (target self.new) }
     {
         let row = self.rows[at];
-        match kind_of(row) {
+        let kind = kind_of(row);
+        match kind {
             RowKind::Variable | RowKind::Figure => {
-                self.tables.operations[slot] = leaf(row);
+                self.tables.operations[slot] = leaf(kind, row);
                 at + 1
             }
             RowKind::Object => {
@@ -95,13 +97,14 @@ impl Emission<'_, '_> {
             }
             RowKind::Select | RowKind::Clone => {
                 let next = self.emit_term(at + 1, slot - 1);
-                self.tables.operations[slot] = follower(row, self.counts.contents);
+                self.tables.operations[slot] = follower(kind, row, self.counts.contents);
                 next
             }
+            // An update or a let, since no method begins a term.
             _ => {
                 let body = self.emit_term(at + 1, slot - 1);
                 let list = self.counts.contents;
-                self.tables.operations[slot] = follower(row, list);
+                self.tables.operations[slot] = follower(kind, row, list);
                 self.emit_list(body, 0)
             }
         }
@@ -112,12 +115,12 @@ impl Emission<'_, '_> {
     fn emit_methods(&mut self, from: usize, first: u32, count: u32) -> usize
         requires ready { ReadyAll (source self.old) from first count (target self.old) }
         requires within { from ≤ length self.old.rows.now }
-        ensures same_tables { self.new.tables.ghost_name ≡ self.old.tables.ghost_name }
-        ensures same_rows { self.new.rows ≡ self.old.rows }
+        ensures goes { GoesOn self.old self.new }
         ensures next { (from ≤ result) × (result ≤ length self.old.rows.now) }
         ensures wrote { WroteAll (source self.old) from first count result (target self.old) (target self.new) }
     {
         let mut at = from;
+        // By index, since the methods' lists go into the same tables between one entry and the next.
         for k in 0..count {
             let label = self.rows[at].label;
             self.tables.methods[(first + k) as usize] = MethodEntry {
@@ -133,8 +136,7 @@ impl Emission<'_, '_> {
     #[cycle(emit_list_emit_methods_emit_term)]
     fn emit_list(&mut self, at: usize, mark: u32) -> usize
         requires { ReadyList (source self.old) at (target self.old) }
-        ensures same_tables { self.new.tables.ghost_name ≡ self.old.tables.ghost_name }
-        ensures same_rows { self.new.rows ≡ self.old.rows }
+        ensures goes { GoesOn self.old self.new }
         ensures next { (at < result) × (result ≤ length self.old.rows.now) }
         ensures wrote { WroteList (source self.old) at mark result (target self.old) (target self.new) }
     {

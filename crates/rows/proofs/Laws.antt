@@ -1,6 +1,9 @@
 -- The laws of the verdict.
 use Rattle.std.proofs.Common.{◌≡◌, ℕ, suc, ◌+◌, Bool, true, false, ◌||◌, eqb, ltb, List, [], ◌∷◌, ◌++◌, length, Some, None, Option, Result, sym, refl, ap, ◌∙◌, subst, append-nil, arith}
+use Rattle.std.proofs.lemmas.Bool.{false≢true}
 use Rattle.std.proofs.lemmas.Bool.Decides.{nat_tests}
+use Rattle.std.proofs.lemmas.Option.{none-some}
+use Rattle.std.specs.Result.{is_ok}
 use Rattle.calculus.specs.declared.rows.Row.{Row}
 use Rattle.calculus.specs.declared.code.Counts.{Counts}
 use Rattle.calculus.specs.declared.refusals.RowFault.{RowFault}
@@ -112,8 +115,8 @@ faulty_because Depth rows ws p o x = x
 faulty_because MethodCount rows ws p o x = x
 faulty_because LabelTwice rows ws p o x = x
 faulty_because Index rows ws p o x = x
-faulty_because Ends rows ws p o x = let z : ◌≡◌ {A = ℕ} 0 1 = cc in absurd (omega arith)
-faulty_because Left rows ws p o x = let z : ◌≡◌ {A = ℕ} 0 1 = cc in absurd (omega arith)
+faulty_because Ends rows ws p o x = absurd (false≢true o)
+faulty_because Left rows ws p o x = absurd (false≢true o)
 
 -- why a walk from place p on is refused at place q
 abbrev Reason : RowFault → List Row → List Want → ℕ → ℕ → Type 0
@@ -121,7 +124,7 @@ Reason f rows ws p q = (k : ℕ) × (q ≡ p + k) × Because f rows ws k
 
 reason : (rows : List Row) (p : ℕ) (ws : List Want) (f : RowFault) (q : ℕ) → walk rows p ws ≡ Some (AtRow f q) → Reason f rows ws p q
 unfolding walk
-reason [] p [] f q e = let z : ◌≡◌ {A = ℕ} 0 1 = cc in absurd (omega arith)
+reason [] p [] f q e = absurd (none-some _ e)
 reason [] p (w ∷ ws) f q e =
     let same : Ends ≡ f = cc in
     let place : p ≡ q = cc in
@@ -146,9 +149,7 @@ module _ (rows : List Row) (g : ℕ) (ok : Readable rows g) where
   accepts_by : (o : Option Refusal) → walk rows 0 (a_term 1 g ∷ []) ≡ o → Accepts rows g (sized o (row_sizes rows))
   accepts_by (Some x) e =
       λ t w.
-      let a = term_accepted rows g t w.is w.fit in
-      let z : ◌≡◌ {A = ℕ} 0 1 = cc in
-      omega arith
+      none-some x (sym (term_accepted rows g t w.is w.fit) ∙ e)
   accepts_by None e =
       let a = accepted_term rows g e in
       (a.0, record { readable = ok; is = a.1; fit = a.2 }, sizes_are rows a.0 a.1)
@@ -163,8 +164,8 @@ module _ (rows : List Row) (g : ℕ) (ok : Readable rows g) where
     λ h. let found = refused_so f rows (a_term 1 g ∷ []) p h.1 in cc,
   )
   first_by None e f p = (
-    λ h. let z : ◌≡◌ {A = ℕ} 0 1 = cc in absurd (omega arith),
-    λ h. let found = refused_so f rows (a_term 1 g ∷ []) p h.1 in let z : ◌≡◌ {A = ℕ} 0 1 = cc in absurd (omega arith),
+    λ h. absurd (false≢true (sym (ap is_ok h))),
+    λ h. absurd (none-some _ (sym e ∙ refused_so f rows (a_term 1 g ∷ []) p h.1)),
   )
 
   verdict_by : (r : Result Counts Refusal) → r ≡ sized (walk rows 0 (a_term 1 g ∷ [])) (row_sizes rows) → verdict rows g ≡ r

@@ -1,6 +1,8 @@
 -- What the check accepts are the rows of a term that fits.
-use Rattle.std.proofs.Common.{◌≡◌, ℕ, zero, suc, ◌+◌, ◌<◌, ◌≤◌, Bool, true, not, ◌&&◌, leb, ◌⊎◌, List, [], ◌∷◌, ◌++◌, map, ℤ, pos, negsuc, nat_abs, Some, None, Option, sym, refl, ap, ◌∙◌, subst, inl, inr, append_assoc, append-nil, arith}
+use Rattle.std.proofs.Common.{◌≡◌, ℕ, zero, suc, ◌+◌, ◌<◌, ◌≤◌, true, not, leb, ◌⊎◌, List, [], ◌∷◌, ◌++◌, map, ℤ, pos, negsuc, nat_abs, Some, None, Option, sym, refl, ap, ◌∙◌, subst, inl, inr, append_assoc, append-nil, arith}
 use Rattle.std.proofs.lemmas.Bool.Decides.{nat_tests}
+use Rattle.std.proofs.lemmas.Option.{none-some}
+use Rattle.std.specs.Cmp.Derive.{both_true}
 use Rattle.calculus.specs.declared.rows.Row.{Row}
 use Rattle.calculus.specs.declared.values.Value.TheVariants.{Figure}
 use Rattle.calculus.specs.declared.refusals.RowFault.{RowFault}
@@ -17,15 +19,12 @@ Split (a_term d s ∷ ws) rows = (t : Term) × (rest : List Row) × (map plain r
 Split (a_method n d s seen ∷ ws) rows = (ms : Methods) × (rest : List Row) × (map plain rows ≡ method_rows ms ++ map plain rest) × (many ms ≡ suc n) × (fit_methods ms d s seen ≡ true) × Split ws rest
 
 no_fault : (x : Option RowFault) (p : ℕ) (o : Option Refusal) → unless x p o ≡ None → x ≡ None
-no_fault (Some f) p o e = let z : ◌≡◌ {A = ℕ} 0 1 = cc in absurd (omega arith)
+no_fault (Some f) p o e = absurd (none-some _ (sym e))
 no_fault None p o e = refl
 
 went_on : (x : Option RowFault) (p : ℕ) (o : Option Refusal) → unless x p o ≡ None → o ≡ None
-went_on (Some f) p o e = let z : ◌≡◌ {A = ℕ} 0 1 = cc in absurd (omega arith)
+went_on (Some f) p o e = absurd (none-some _ (sym e))
 went_on None p o e = e
-
-and : (a b : Bool) → a ≡ true → b ≡ true → (a && b) ≡ true
-and a b p q = rw p q
 
 plain_is : (r : Row) (k : ℕ) → r.kind ≡ k → plain r ≡ plain (row k r.label r.number)
 plain_is r k e = ap (λ (j : ℕ). plain (row j r.label r.number)) e
@@ -67,13 +66,13 @@ cons x y xs ys p q = cc
 
 object_of : (r : Row) (d s n : ℕ) (ws : List Want) (rs : List Row) → r.kind ≡ 3 → r.number ≡ pos n → leb n 64 ≡ true → leb d 200 ≡ true → Split (methods n (d + 1) s [] ++ ws) rs → Split (a_term d s ∷ ws) (r ∷ rs)
 object_of r d s zero ws rs k z few deep S =
-    (object nil, rs, cons _ _ _ _ (plain_is r 3 k ∙ ap (λ (x : ℤ). row 3 0 x) z) refl, and _ _ deep refl, S)
+    (object nil, rs, cons _ _ _ _ (plain_is r 3 k ∙ ap (λ (x : ℤ). row 3 0 x) z) refl, both_true deep refl, S)
 object_of r d s (suc n) ws rs k z few deep S =
     let m = S.3 in (
       object S.0,
       S.1,
       cons _ _ _ _ (plain_is r 3 k ∙ ap (λ (x : ℤ). row 3 0 x) (z ∙ ap pos (sym m))) S.2,
-      and _ _ deep (and _ _ (ap (λ (x : ℕ). leb x 64) m ∙ few) S.4),
+      both_true deep (both_true (ap (λ (x : ℕ). leb x 64) m ∙ few) S.4),
       S.5,
     )
 
@@ -87,7 +86,7 @@ assemble r d s ws rs ok S = go r.kind refl
     go zero e = absurd (omega (arith, (kinds r d s ok).0))
     go (suc zero) e =
         let i = index_is r d s ok e in
-        (var (nat_abs r.number), rs, cons _ _ _ _ (plain_is r 1 e ∙ ap (λ (x : ℤ). row 1 0 x) i.0) refl, and _ _ deep (and _ _ i.1 i.2), leaf r d s ws rs (omega arith) S)
+        (var (nat_abs r.number), rs, cons _ _ _ _ (plain_is r 1 e ∙ ap (λ (x : ℤ). row 1 0 x) i.0) refl, both_true deep (both_true i.1 i.2), leaf r d s ws rs (omega arith) S)
     go (suc (suc zero)) e =
         (val (Figure r.number), rs, cons _ _ _ _ (plain_is r 2 e) refl, deep, leaf r d s ws rs (omega arith) S)
     go (suc (suc (suc zero))) e =
@@ -95,18 +94,18 @@ assemble r d s ws rs ok S = go r.kind refl
         object_of r d s (nat_abs r.number) ws rs e i.0 i.1 deep (subst (λ (ps : List Want). Split (ps ++ ws) rs) (parts_object r d s e) S)
     go (suc (suc (suc (suc zero)))) e =
         let S = one r d s ws rs (inl e) S in
-        (select S.0 r.label, S.1, cons _ _ _ _ (plain_is r 4 e) S.2, and _ _ deep S.3, S.4)
+        (select S.0 r.label, S.1, cons _ _ _ _ (plain_is r 4 e) S.2, both_true deep S.3, S.4)
     go (suc (suc (suc (suc (suc zero))))) e =
         let S = two r d s ws rs (inl e) S in
         let B = S.4 in
-        (update S.0 r.label B.0, B.1, cons _ _ _ _ (plain_is r 5 e) (joined _ _ _ _ _ S.2 B.2), and _ _ deep (and _ _ S.3 B.3), B.4)
+        (update S.0 r.label B.0, B.1, cons _ _ _ _ (plain_is r 5 e) (joined _ _ _ _ _ S.2 B.2), both_true deep (both_true S.3 B.3), B.4)
     go (suc (suc (suc (suc (suc (suc zero)))))) e =
         let S = one r d s ws rs (inr e) S in
-        (clone S.0, S.1, cons _ _ _ _ (plain_is r 6 e) S.2, and _ _ deep S.3, S.4)
+        (clone S.0, S.1, cons _ _ _ _ (plain_is r 6 e) S.2, both_true deep S.3, S.4)
     go (suc (suc (suc (suc (suc (suc (suc zero))))))) e =
         let S = two r d s ws rs (inr e) S in
         let B = S.4 in
-        (bind S.0 B.0, B.1, cons _ _ _ _ (plain_is r 7 e) (joined _ _ _ _ _ S.2 B.2), and _ _ deep (and _ _ S.3 B.3), B.4)
+        (bind S.0 B.0, B.1, cons _ _ _ _ (plain_is r 7 e) (joined _ _ _ _ _ S.2 B.2), both_true deep (both_true S.3 B.3), B.4)
     go (suc (suc (suc (suc (suc (suc (suc (suc k)))))))) e = absurd (omega (arith, (kinds r d s ok).1))
 
 is_method : (r : Row) (d : ℕ) (seen : List ℕ) → method_fault r d seen ≡ None → (r.kind ≡ 8) × (leb d 200 ≡ true) × (not (has r.label seen) ≡ true)
@@ -115,17 +114,17 @@ is_method r d seen e = (grind (arith, nat_tests), grind (arith, nat_tests), grin
 assemble_m : (r : Row) (n d s : ℕ) (seen : List ℕ) (ws : List Want) (rs : List Row) → method_fault r d seen ≡ None → Split (a_term (d + 1) (s + 1) ∷ (methods n d s (seen ++ r.label ∷ []) ++ ws)) rs → Split (a_method n d s seen ∷ ws) (r ∷ rs)
 assemble_m r zero d s seen ws rs ok S =
     let i = is_method r d seen ok in
-    (method r.label S.0 nil, S.1, cons _ _ _ _ (plain_is r 8 i.0) (S.2 ∙ ap (λ (v : List Row). v ++ map plain S.1) (sym (append-nil (rows_of S.0)))), refl, and _ _ i.1 (and _ _ i.2 (and _ _ S.3 refl)), S.4)
+    (method r.label S.0 nil, S.1, cons _ _ _ _ (plain_is r 8 i.0) (S.2 ∙ ap (λ (v : List Row). v ++ map plain S.1) (sym (append-nil (rows_of S.0)))), refl, both_true i.1 (both_true i.2 (both_true S.3 refl)), S.4)
 assemble_m r (suc n) d s seen ws rs ok S =
     let i = is_method r d seen ok in
     let M = S.4 in
-    (method r.label S.0 M.0, M.1, cons _ _ _ _ (plain_is r 8 i.0) (joined _ _ _ _ _ S.2 M.2), ap suc M.3, and _ _ i.1 (and _ _ i.2 (and _ _ S.3 M.4)), M.5)
+    (method r.label S.0 M.0, M.1, cons _ _ _ _ (plain_is r 8 i.0) (joined _ _ _ _ _ S.2 M.2), ap suc M.3, both_true i.1 (both_true i.2 (both_true S.3 M.4)), M.5)
 
 pub sound : (rows : List Row) (p : ℕ) (ws : List Want) → walk rows p ws ≡ None → Split ws rows
 unfolding walk
 sound [] p [] e = refl
-sound [] p (w ∷ ws) e = let z : ◌≡◌ {A = ℕ} 0 1 = cc in absurd (omega arith)
-sound (r ∷ rs) p [] e = let z : ◌≡◌ {A = ℕ} 0 1 = cc in absurd (omega arith)
+sound [] p (w ∷ ws) e = absurd (none-some _ (sym e))
+sound (r ∷ rs) p [] e = absurd (none-some _ (sym e))
 sound (r ∷ rs) p (w ∷ ws) e = whole r w ws rs (no_fault (judge r w) p _ e) (sound rs (p + 1) (follows r w ++ ws) (went_on (judge r w) p _ e))
   where
     whole : (r : Row) (w : Want) (ws : List Want) (rs : List Row) → judge r w ≡ None → Split (follows r w ++ ws) rs → Split (w ∷ ws) (r ∷ rs)

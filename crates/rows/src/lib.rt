@@ -103,10 +103,8 @@ impl Table<'_> {
             (λ row. (at < length self.now.rows.now) × (drop at self.now.rows.now ≡ row ∷ drop (at + 1) self.now.rows.now))
             (λ refusal. (refusal ≡ AtRow Ends at) × (drop at self.now.rows.now ≡ [])) }
     {
-        match self.rows.get(at) {
-            Some(row) => Ok(*row),
-            None => Err(Refusal::AtRow(RowFault::Ends, at as u32)),
-        }
+        let ended = Refusal::AtRow(RowFault::Ends, at as u32);
+        self.rows.get(at).copied().ok_or(ended)
     }
 
     /// Checks the term that begins at row `at`: where it ends, or the first fault.

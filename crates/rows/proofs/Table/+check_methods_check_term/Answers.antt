@@ -1,5 +1,5 @@
 use Rattle.std.proofs.Common.{◌≡◌, ℕ, ◌+◌, ◌-◌, List, [], ◌∷◌, ◌++◌, take, drop, nat_abs, Some, None, sym, refl, ap, ◌∙◌, arith, w64, SFits, rules}
-use Rattle.rows.specs.Verdict.{walk, methods, term_fault, method_fault}
+use Rattle.rows.specs.Verdict.{Want, a_term, walk, methods, parts, term_fault, method_fault}
 use Rattle.std.proofs.lemmas.List.{take_more_set}
 use Rattle.std.proofs.lemmas.Int.{to_z-of_z}
 use Rattle.std.proofs.lemmas.Result.{err_from_is_err_and}
@@ -7,6 +7,7 @@ use Rattle.calculus.specs.declared.refusals.RowFault.{RowFault}
 use Rattle.calculus.specs.declared.refusals.Refusal.TheVariants.{AtRow}
 use Rattle.calculus.specs.Kinds.{kind_number}
 use Rattle.rows.proofs.Steps.{walk_ends, refuses, passes, kind_one, kind_two, kind_object, kind_none, same_level, same_methods, next_method}
+use Rattle.rows.proofs.Table.+check_methods_check_term.Goals.{check_term-In_ok-kind}
 use Rattle.rows.proofs.Table.+check_methods_check_term.Goals as goal
 
 pub check_methods-returns-in_err-row-clause-walks : goal.check_methods-returns-in_err-row-clause-walks
@@ -35,6 +36,14 @@ check_methods-loop-k-preserved t c =
       λ ws. c.loop-k.invariant.3 ws ∙ next_method c.args.self.now.rows.now c.loop-k.at _ _ _ _ _ ws c.loop-k-test.true ∙ passes c.args.self.now.rows.now c.loop-k.at c.in_ok-row.row c.in_ok-row.ensures.1 _ ws q.1 _ refl ∙ same_level _ _ _ _ _ _ _ c.body.ensures ∙ c.in_ok-at.ensures.walks _ ∙ ap (λ (l : List ℕ). walk (drop c.in_ok-at.at c.args.self.now.rows.now) c.in_ok-at.at (methods (c.args.count - (c.loop-k.k + 1)) c.args.level.depth c.args.level.scope l ++ ws)) (ap (λ (x : ℕ). take c.loop-k.k c.loop-k.seen ++ x ∷ []) (sym q.0) ∙ sym (take_more_set c.loop-k.seen c.loop-k.k c.in_ok-seen.field-0 (omega arith))),
     )
 
+-- a row that passes is of the kind that was read, and leaves its parts to come
+module _ (t : ℕ) (c : check_term-In_ok-kind t) where
+  read : (kind_number c.in_ok-kind.kind ≡ c.in_ok-row.row.kind) × (term_fault c.in_ok-row.row c.args.level.depth c.args.level.scope ≡ None)
+  read = search rules
+
+  passed : (fs ws : List Want) → parts c.in_ok-row.row c.args.level.depth c.args.level.scope ≡ fs → walk (drop c.args.at c.args.self.now.rows.now) c.args.at (a_term c.args.level.depth c.args.level.scope ∷ ws) ≡ walk (drop (c.args.at + 1) c.args.self.now.rows.now) (c.args.at + 1) (fs ++ ws)
+  passed fs ws = passes c.args.self.now.rows.now c.args.at c.in_ok-row.row c.in_ok-row.ensures.1 _ ws read.1 fs
+
 pub check_term-returns-in_err-row-clause-walks : goal.check_term-returns-in_err-row-clause-walks
 check_term-returns-in_err-row-clause-walks t c =
     let p = err_from_is_err_and c.from_residual.result c.from_residual.ensures.1 in
@@ -48,35 +57,35 @@ check_term-returns-in_err-kind-clause-walks t c =
 
 pub check_term-returns-in-Object-clause-walks : goal.check_term-returns-in-Object-clause-walks
 check_term-returns-in-Object-clause-walks t c =
-    let q : (kind_number c.in_ok-kind.kind ≡ c.in_ok-row.row.kind) × (term_fault c.in_ok-row.row c.args.level.depth c.args.level.scope ≡ None) = search rules in
+    let k = (goal.at.check_term-returns-in-Object-clause-walks t c).In_ok-kind in
     let f : SFits w64 c.in_ok-row.row.number = search rules in
     λ ws.
-    passes c.args.self.now.rows.now c.args.at c.in_ok-row.row c.in_ok-row.ensures.1 _ ws q.1 _ (kind_object c.in_ok-kind.kind c.in_ok-row.row _ _ q.0 c.in-Object.is)
+    passed t k _ ws (kind_object c.in_ok-kind.kind c.in_ok-row.row _ _ (read t k).0 c.in-Object.is)
     ∙ same_methods _ _ _ _ _ _ _ _ ws (ap nat_abs (to_z-of_z w64 _ f)) c.part.ensures
     ∙ c.check_methods.ensures.walks ws
 
 pub check_term-returns-in-Select-clause-walks : goal.check_term-returns-in-Select-clause-walks
 check_term-returns-in-Select-clause-walks t c =
-    let q : (kind_number c.in_ok-kind.kind ≡ c.in_ok-row.row.kind) × (term_fault c.in_ok-row.row c.args.level.depth c.args.level.scope ≡ None) = search rules in
+    let k = (goal.at.check_term-returns-in-Select-clause-walks t c).In_ok-kind in
     λ ws.
-    passes c.args.self.now.rows.now c.args.at c.in_ok-row.row c.in_ok-row.ensures.1 _ ws q.1 _ (kind_one c.in_ok-kind.kind c.in_ok-row.row _ _ q.0 c.in-Select.is)
+    passed t k _ ws (kind_one c.in_ok-kind.kind c.in_ok-row.row _ _ (read t k).0 c.in-Select.is)
     ∙ same_level _ _ _ _ _ _ ws c.part-in-Select.ensures
     ∙ c.check_term.ensures.walks ws
 
 pub check_term-returns-in_err-body-in-Update-clause-walks : goal.check_term-returns-in_err-body-in-Update-clause-walks
 check_term-returns-in_err-body-in-Update-clause-walks t c =
     let p = err_from_is_err_and c.from_residual-in_err-body-in-Update.result c.from_residual-in_err-body-in-Update.ensures.1 in
-    let q : (kind_number c.in_ok-kind.kind ≡ c.in_ok-row.row.kind) × (term_fault c.in_ok-row.row c.args.level.depth c.args.level.scope ≡ None) = search rules in
+    let k = (goal.at.check_term-returns-in_err-body-in-Update-clause-walks t c).In_ok-kind in
     rw (p.1, p.2) (λ ws.
-    passes c.args.self.now.rows.now c.args.at c.in_ok-row.row c.in_ok-row.ensures.1 _ ws q.1 _ (kind_two c.in_ok-kind.kind c.in_ok-row.row _ _ q.0 c.in-Update.is)
+    passed t k _ ws (kind_two c.in_ok-kind.kind c.in_ok-row.row _ _ (read t k).0 c.in-Update.is)
     ∙ same_level _ _ _ _ _ _ _ c.part-in-Update.ensures
     ∙ c.in_err-body-in-Update.ensures.walks _)
 
 pub check_term-returns-in_ok-body-in-Update-clause-walks : goal.check_term-returns-in_ok-body-in-Update-clause-walks
 check_term-returns-in_ok-body-in-Update-clause-walks t c =
-    let q : (kind_number c.in_ok-kind.kind ≡ c.in_ok-row.row.kind) × (term_fault c.in_ok-row.row c.args.level.depth c.args.level.scope ≡ None) = search rules in
+    let k = (goal.at.check_term-returns-in_ok-body-in-Update-clause-walks t c).In_ok-kind in
     λ ws.
-    passes c.args.self.now.rows.now c.args.at c.in_ok-row.row c.in_ok-row.ensures.1 _ ws q.1 _ (kind_two c.in_ok-kind.kind c.in_ok-row.row _ _ q.0 c.in-Update.is)
+    passed t k _ ws (kind_two c.in_ok-kind.kind c.in_ok-row.row _ _ (read t k).0 c.in-Update.is)
     ∙ same_level _ _ _ _ _ _ _ c.part-in-Update.ensures
     ∙ c.in_ok-body-in-Update.ensures.walks _
     ∙ same_level _ _ _ _ _ _ ws c.body.ensures
@@ -84,6 +93,6 @@ check_term-returns-in_ok-body-in-Update-clause-walks t c =
 
 pub check_term-returns-in_default-clause-walks : goal.check_term-returns-in_default-clause-walks
 check_term-returns-in_default-clause-walks t c =
-    let q : (kind_number c.in_ok-kind.kind ≡ c.in_ok-row.row.kind) × (term_fault c.in_ok-row.row c.args.level.depth c.args.level.scope ≡ None) = search rules in
+    let k = (goal.at.check_term-returns-in_default-clause-walks t c).In_ok-kind in
     λ ws.
-    passes c.args.self.now.rows.now c.args.at c.in_ok-row.row c.in_ok-row.ensures.1 _ ws q.1 _ (kind_none c.in_ok-kind.kind c.in_ok-row.row _ _ q.0 c.in_default.not-Object c.in_default.not-Select c.in_default.not-Update c.in_default.not-Clone c.in_default.not-Let)
+    passed t k _ ws (kind_none c.in_ok-kind.kind c.in_ok-row.row _ _ (read t k).0 c.in_default.not-Object c.in_default.not-Select c.in_default.not-Update c.in_default.not-Clone c.in_default.not-Let)
