@@ -68,6 +68,7 @@ impl RowFault {
     pub fn number(self) -> u32
         ensures { result ≡ row_number self }
     {
+        // by cases, as the table of refusals has them: two refusals may have one number, so discriminants could not be they
         match self {
             RowFault::Kind => 3,
             RowFault::Depth => 4,

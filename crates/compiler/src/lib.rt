@@ -44,6 +44,7 @@ pub fn compile(rows: &[Row], givens: u32, area: &mut CodeArea<'_>) -> Result<u32
     if guard.counts.methods > rooms.methods {
         return Err(Refusal::MethodsFull);
     }
+    // Emission is made behind a call: in here the final value of a field lent for it would be lost to the proof.
     let _used = emit(&mut area.tables, saved, rows, givens + 1);
     guard.disarm();
     Ok(saved.contents)

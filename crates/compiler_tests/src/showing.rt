@@ -83,6 +83,7 @@ fn show_list(
     operations: &[Operation],
 ) -> io::Result<()> {
     print!(rt; "list {number}, mark {}:", entry.mark)?;
+    // by place: an entry made by hand may name more operations than there are
     for place in 0..entry.len {
         match operations.get(entry.first as usize + place as usize) {
             Some(operation) => print!(rt; " {},", Shown(*operation))?,

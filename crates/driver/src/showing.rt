@@ -83,6 +83,7 @@ fn push_values<S: Store>(
 ) -> Result<(), AllocError> {
     let mut env = env;
     // an environment is a number, and each of its cells has the next one's
+    // as many cells as there can be: no type says that the parents lead to the end
     for i in 0..MOST_ENTRIES {
         let Some(cell) = first_cell(session, env) else {
             return Ok(());

@@ -27,7 +27,7 @@ pub enum Fault {
     Store(StoreFault),
 }
 
-/// Why a run stops.
+/// Why a run stops: done and paused are no failures, but all three end the loop, and `?` carries them.
 #[derive(Clone, Copy)]
 pub enum Stop {
     Done(Value),
@@ -36,7 +36,7 @@ pub enum Stop {
     Refused(Fault),
 }
 
-/// What a run answers: each case but the first with the report.
+/// What a run answers: each case but the first with the report. The cases are those of the rules, so they are not folded into a `Result`.
 #[derive(Clone, Copy)]
 pub enum RunAnswer {
     /// No program is running.

@@ -58,7 +58,7 @@ fn two_layers(mut words: Words<'_>) -> Result<StoreKind, Expected>
     }
 }
 
-/// The kind of store whose name goes on behind one layer.
+/// The kind of store whose name goes on behind one layer: a function for each depth, since each ends in kinds of its own.
 fn one_layer(mut words: Words<'_>) -> Result<StoreKind, Expected>
     ensures { result ≡ under_one (left words.entry) }
 {

@@ -113,6 +113,7 @@ impl<'a, E: Copy> Areas<'a, E> {
         ensures written { Changed self.old self.new self.old.objects.now (paste self.old.methods.now self.old.method_count (methods_of entries.now env) (length entries.now)) }
     {
         let first = self.method_count as usize;
+        // by index: of what an adapter of `iter_mut` lends out a proof knows no element afterwards
         for (i, entry) in entries.iter().enumerate() {
             let closure = Closure {
                 list: entry.list,

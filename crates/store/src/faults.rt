@@ -20,6 +20,7 @@ impl StoreFault {
     pub fn number(self) -> u32
         ensures { result ≡ store_number self }
     {
+        // by cases, as every refusal's number
         match self {
             StoreFault::ObjectsFull => 25,
             StoreFault::MethodsFull => 26,

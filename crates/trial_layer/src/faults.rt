@@ -20,6 +20,7 @@ impl TrialFault {
     pub fn number(self) -> u32
         ensures { result ≡ trial_number self }
     {
+        // by cases, as every refusal's number
         match self {
             TrialFault::Open => 27,
             TrialFault::NoNumber => 28,

@@ -6,6 +6,7 @@ use store::closures::OldMethod;
 /// A book counts no more old methods than this.
 pub const BOOK_ROOM: usize = 256;
 
+/// The rows of a book: a plain table of as many as it counts at most, since nothing is allocated here.
 #[derive(Drop)]
 pub struct NoteTable {
     rows: [OldMethod; BOOK_ROOM],
