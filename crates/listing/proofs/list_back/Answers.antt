@@ -9,27 +9,6 @@ use Rattle.listing.proofs.Rowed.{is_err}
 use Rattle.listing.proofs.Answering.{none_kept, gives_only, gives_term, gives_compiled}
 use Rattle.listing.proofs.list_back.Goals as goal
 
-pub returns-in_err-code : goal.returns-in_err-code
-returns-in_err-code c =
-    let v = c.in_err-code.ensures in
-    let outside = rw v.ok_part at c.used.ensures in
-    let err = rw v.ok_part at v.value in
-    let why : c.in_err-code.field-0.0 ≡ CountOutside = cc in
-    let e = is_err c.from_residual.result _ c.from_residual.ensures.1 ∙ ap Err why in
-    let a = c.args.area.now in
-    let before = c.args.rows.now in
-    let stack = c.args.stack.now in
-    let r = c.from_residual.result in
-    let kept = none_kept r _ before before e in
-    let is = ap (λ (x : Result ℕ Refusal). Some (told x (λ n. take n before))) e ∙ sym (cond-false _ (listed _ (lent_rooms before stack) c.args.program) (Some (Err CountOutside)) outside) in
-    record {
-      answer = is;
-      kept = kept;
-      only = gives_only a.tables a.counts c.args.program before before stack r is;
-      stands = gives_term a.tables a.counts c.args.program r before before stack is kept;
-      compiled = gives_compiled a.tables a.counts c.args.program r before before stack is kept;
-    }
-
 pub returns : goal.returns
 returns c =
     let u = rw c.in_ok-code.ensures.ok_part at c.used.ensures in
