@@ -21,14 +21,6 @@ returns-in_err-copy c =
     let p = err_from_is_err_and c.from_residual-in_err-copy.result c.from_residual-in_err-copy.ensures.1 in
     record { answer = rw (p.1, p.2) (clone_is _ _ _ _ _ t l e.0 _ r); state = not_cloned _ _ _ _ _ t l e.0 _ r; uncopied = refl }
 
-pub root_of-root-requires : goal.root_of-root-requires
-root_of-root-requires c = (entered c.args.self.now.areas no_entry c.args.location c.in_ok-from.from c.in_ok-from.ensures).0
-
-pub at-original-requires : goal.at-original-requires
-at-original-requires c =
-    let e = entered c.args.self.now.areas no_entry c.args.location c.in_ok-from.from c.in_ok-from.ensures in
-    omega (arith, e.0, c.root_of-root.ensures.low)
-
 pub invariant_of-self : goal.invariant_of-self
 invariant_of-self c =
     let s = c.args.self.now in

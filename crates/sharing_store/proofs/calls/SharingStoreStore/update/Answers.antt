@@ -11,14 +11,6 @@ use Rattle.sharing_store.specs.States.{sharing_meaning, entry}
 use Rattle.sharing_store.proofs.Told.{told, span, set_one}
 use Rattle.sharing_store.proofs.calls.SharingStoreStore.update.Goals as goal
 
-pub returns-then-place-entry : goal.returns-then-place-entry
-returns-then-place-entry c =
-    let s = c.args.self.now in
-    let l = c.args.location in
-    let e = entered s.areas no_entry l _ c.in_ok-entry.ensures in
-    let past : (entry s l).size ≤ c.args.place = omega (arith, ap (λ (x : SharedEntry). x.size) e.1, c.if-place-entry.true) in
-    record { answer = no_place_update _ _ _ _ _ (told s) l e.0 c.args.place past; state = no_place_updated _ _ _ _ _ (told s) l e.0 c.args.place past c.args.closure; lone = λ _. refl }
-
 pub returns : goal.returns
 returns c =
     let s = c.args.self.now in

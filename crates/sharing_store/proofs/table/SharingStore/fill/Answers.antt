@@ -31,11 +31,3 @@ pub returns-then-entry : goal.returns-then-entry
 returns-then-entry c =
     fills_it c.args.self.now c.args.location c.requires c.at-entry.result (c.at-entry.ensures no_entry) c.if-entry.true c.held_span.result c.held_span.ensures c.copy_methods.new.self c.copy_methods.ensures _ c.set.ensures
 
-pub returns-else-entry : goal.returns-else-entry
-returns-else-entry c =
-    let s = c.args.self.now in
-    record {
-      only = fills_none s;
-      now_filled = subst (λ (x : SharedEntry). x.held ≡ x.first) (c.at-entry.ensures no_entry) c.if-entry.false;
-      idle = λ f. record { entries_are = refl; methods_are = refl };
-    }

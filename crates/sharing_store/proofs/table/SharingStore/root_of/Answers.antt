@@ -4,11 +4,6 @@ use Rattle.sharing_store.specs.Views.{no_entry}
 use Rattle.sharing_store.proofs.More.{root_itself, root_shared}
 use Rattle.sharing_store.proofs.table.SharingStore.root_of.Goals as goal
 
-pub returns-then-entry : goal.returns-then-entry
-returns-then-entry c =
-    let full = subst (λ (x : SharedEntry). x.held ≡ x.first) (c.at-entry.ensures no_entry) c.if-entry.true in
-    root_itself c.args.self.now c.args.location c.requires full
-
 pub returns-else-entry : goal.returns-else-entry
 returns-else-entry c =
     let e = c.at-entry.ensures no_entry in

@@ -4,13 +4,6 @@ use Rattle.store.specs.Meaning.{methods_of}
 use Rattle.store.proofs.Writes.{entry_more}
 use Rattle.store.proofs.areas.Areas.write_methods.Goals as goal
 
-pub loop-i-init : goal.loop-i-init
-loop-i-init g c = record {
-  entries_are = refl;
-  methods_are = paste_none c.args.self.now.methods.now c.args.self.now.method_count (methods_of c.args.entries.now c.args.env);
-  counts = record { object_count_is = refl; method_count_is = refl; object_limit_is = refl; method_limit_is = refl };
-}
-
 pub loop-i-preserved : goal.loop-i-preserved
 loop-i-preserved g c =
     let s = c.args.self.now in
