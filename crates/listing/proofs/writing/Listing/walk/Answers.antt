@@ -17,3 +17,5 @@ returns-in_err-turn-clause-answer c =
 pub returns-in_err-turn-clause-kept : goal.returns-in_err-turn-clause-kept
 returns-in_err-turn-clause-kept c = kept_on c.loop-pending.invariant c.in_err-turn.ensures.kept refl refl refl c.in-Some.ensures.room c.in-Some.ensures.held
 
+pub returns-clause-answer : goal.returns-clause-answer
+returns-clause-answer c = ended c.loop-pending.invariant c.in_default.ensures.held.0
