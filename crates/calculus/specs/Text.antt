@@ -1,5 +1,5 @@
 -- The used parts of the three tables of a code area.
-use Rattle.std.specs.Prelude.{Bool, ◌&&◌, List, ◌++◌, length, take, nat_le}
+use Rattle.std.specs.Prelude.{ℕ, zero, suc, Some, None, Option, Bool, ◌&&◌, List, ◌++◌, length, take, nat_le}
 use Rattle.calculus.specs.declared.code.ListEntry.{ListEntry}
 use Rattle.calculus.specs.declared.code.MethodEntry.{MethodEntry}
 use Rattle.calculus.specs.declared.code.Operation.{Operation}
@@ -34,3 +34,8 @@ within c r = nat_le c.contents r.contents && (nat_le c.operations r.operations &
 
 abbrev pub none_used : Counts
 none_used = record { contents = 0; operations = 0; methods = 0 }
+
+-- the number of givens of a main list: its mark is one more
+abbrev pub main_mark : ℕ → Option ℕ
+main_mark zero = None
+main_mark (suc g) = Some g

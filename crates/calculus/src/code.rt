@@ -1,4 +1,8 @@
 //! The code area: operation lists in three lent tables, and how much of each is used.
+ghost use Rattle.std.specs.Prelude.{slice_get, ◌≡◌, ◌+◌};
+ghost use Rattle.calculus.specs.Text.{text_of, main_mark};
+
+use crate::lookup::entry_at;
 
 /// One operation. A list is one head (access, figure, object) and its followers.
 #[derive(Clone, Copy)]
@@ -61,4 +65,36 @@ pub struct Code<'a> {
     pub contents: &'a [ListEntry],
     pub operations: &'a [Operation],
     pub methods: &'a [MethodEntry],
+}
+
+impl ListEntry {
+    /// How many givens the program takes whose main list this is; none where it is a body.
+    pub fn givens(self) -> Option<u32>
+        ensures { result ≡ main_mark self.mark }
+    {
+        self.mark.checked_sub(1)
+    }
+}
+
+impl Code<'_> {
+    /// The entry of the list of this number, if there is one.
+    pub fn list(&self, number: u32) -> Option<ListEntry>
+        ensures { result ≡ slice_get (text_of self.now).contents number }
+    {
+        entry_at(self.contents, number as usize)
+    }
+
+    /// What stands at a place, counted from 0, from the first operation of a list on, if the table reaches so far.
+    pub fn operation(&self, list: ListEntry, place: u32) -> Option<Operation>
+        ensures { result ≡ slice_get (text_of self.now).operations (list.first + place) }
+    {
+        entry_at(self.operations, list.first as usize + place as usize)
+    }
+
+    /// What stands at a place, counted from 0, from a first method entry on, if the table reaches so far.
+    pub fn method(&self, first: u32, place: u32) -> Option<MethodEntry>
+        ensures { result ≡ slice_get (text_of self.now).methods (first + place) }
+    {
+        entry_at(self.methods, first as usize + place as usize)
+    }
 }

@@ -6,19 +6,19 @@ ghost use Rattle.calculus.specs.Refusals.{row_number, number_of, place_of};
 #[derive(Clone, Copy, PartialEq, Eq, Debug)]
 pub enum RowFault {
     /// An unknown kind, a method row where none belongs, or none where one does.
-    Kind,
+    Kind = 3,
     /// Deeper than 200.
-    Depth,
+    Depth = 4,
     /// Fewer than 0 methods, or more than 64.
-    MethodCount,
+    MethodCount = 5,
     /// A label for the second time in one object.
-    LabelTwice,
+    LabelTwice = 6,
     /// An index below 1, or past the binders and the givens.
-    Index,
+    Index = 7,
     /// The rows end inside the term.
-    Ends,
+    Ends = 8,
     /// Rows are left after the term.
-    Left,
+    Left = 9,
 }
 
 /// Why a check, a compile, a listing back or a start is refused.
@@ -68,16 +68,7 @@ impl RowFault {
     pub fn number(self) -> u32
         ensures { result ≡ row_number self }
     {
-        // by cases, as the table of refusals has them: two refusals may have one number, so discriminants could not be they
-        match self {
-            RowFault::Kind => 3,
-            RowFault::Depth => 4,
-            RowFault::MethodCount => 5,
-            RowFault::LabelTwice => 6,
-            RowFault::Index => 7,
-            RowFault::Ends => 8,
-            RowFault::Left => 9,
-        }
+        self as u32
     }
 }
 
@@ -86,6 +77,7 @@ impl Refusal {
     pub fn number(self) -> u32
         ensures { result ≡ number_of self }
     {
+        // by cases: some carry values, and two have one number
         match self {
             Refusal::RowCount => 1,
             Refusal::GivenCount => 2,

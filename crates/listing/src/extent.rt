@@ -4,7 +4,6 @@ ghost use Rattle.calculus.specs.Text.{text_of};
 ghost use Rattle.listing.specs.Extent.{run, end_of, Extent};
 
 use calculus::code::{Code, ListEntry};
-use calculus::lookup::entry_at;
 
 /// The number of the first list from a number on that is no body, or where the contents end.
 fn bodies_end(contents: &[ListEntry], from: usize) -> usize
@@ -21,10 +20,8 @@ fn bodies_end(contents: &[ListEntry], from: usize) -> usize
 pub fn lists_end(program: u32, code: &Code<'_>) -> Option<usize>
     ensures { result ≡ end_of (text_of code.now) program }
 {
-    match entry_at(code.contents, program as usize) {
-        Some(found) if found.mark > 0 => Some(bodies_end(code.contents, program as usize + 1)),
-        _ => None,
-    }
+    code.list(program)?.givens()?;
+    Some(bodies_end(code.contents, program as usize + 1))
 }
 
 /// A compiled program has as many lists as its term's sizes say.

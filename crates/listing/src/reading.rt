@@ -5,7 +5,6 @@ ghost use Rattle.listing.specs.Steps.{row_of, proper, row_at, astray, step_at, s
 
 use crate::pending::{Pending, Step};
 use calculus::code::{Code, ListEntry, MethodEntry, Operation};
-use calculus::lookup::entry_at;
 use calculus::refusals::Refusal;
 use calculus::rows::{Row, RowKind};
 
@@ -46,7 +45,7 @@ pub(crate) fn row_at(
 ) -> Result<Row, Refusal>
     ensures { result ≡ row_at (text_of code.now) list entry place }
 {
-    match entry_at(code.operations, entry.first as usize + place as usize) {
+    match code.operation(entry, place) {
         Some(operation) if is_proper(code, list, place, operation) => Ok(row_of(operation)),
         _ => Err(Refusal::Astray {
             list,
@@ -83,7 +82,7 @@ fn step_at(code: &Code<'_>, pending: Pending, operation: Operation) -> Result<St
     match operation {
         Operation::Object { first, count } if pending.method < count => method_step(
             pending,
-            entry_at(code.methods, first as usize + pending.method as usize),
+            code.method(first, pending.method),
         ),
         Operation::Update(_, body) | Operation::Let(body) => Ok(Step::Body(body)),
         _ => Ok(Step::Passed),
@@ -99,8 +98,7 @@ fn step_in(code: &Code<'_>, pending: Pending, entry: ListEntry) -> Result<Step, 
     if pending.next >= entry.len {
         return Ok(Step::Ended);
     }
-    let place = entry.first as usize + pending.next as usize;
-    let operation = entry_at(code.operations, place).ok_or(astray(pending))?;
+    let operation = code.operation(entry, pending.next).ok_or(astray(pending))?;
     step_at(code, pending, operation)
 }
 
@@ -110,6 +108,6 @@ pub(crate) fn step_of(code: &Code<'_>, pending: Pending) -> Result<Step, Refusal
     ensures few { IfOk result (λ step. is_method step ≡ true → pending.method + 1 < 2 ^ 32) }
     ensures short { IfOk result (λ step. passes step ≡ true → pending.next + 1 < 2 ^ 32) }
 {
-    let entry = entry_at(code.contents, pending.list as usize).ok_or(astray(pending))?;
+    let entry = code.list(pending.list).ok_or(astray(pending))?;
     step_in(code, pending, entry)
 }

@@ -11,7 +11,6 @@ use crate::pending::{Pending, Step};
 use crate::reading::step_of;
 use crate::writing::Listing;
 use calculus::code::Code;
-use calculus::lookup::entry_at;
 use calculus::refusals::Refusal;
 use calculus::rows::{Row, RowKind};
 use calculus::stack::Stack;
@@ -80,8 +79,8 @@ pub(crate) fn list_program(
     ensures answer { Some (told result (λ n. take n rows.new)) ≡ listed (text_of code.now) (lent_rooms rows.old stack.old) program }
     ensures kept { IfOk result (λ n. (n ≤ length rows.new) × (drop n rows.new ≡ drop n rows.old)) }
 {
-    match entry_at(code.contents, program as usize) {
-        Some(found) if found.mark > 0 => list_whole(program, code, rows, stack),
+    match code.list(program) {
+        Some(found) if found.givens().is_some() => list_whole(program, code, rows, stack),
         _ => Err(Refusal::NoProgram),
     }
 }

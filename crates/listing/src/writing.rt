@@ -7,7 +7,6 @@ use crate::pending::Pending;
 use crate::reading::row_at;
 use calculus::area::counted_len;
 use calculus::code::{Code, ListEntry};
-use calculus::lookup::entry_at;
 use calculus::refusals::Refusal;
 use calculus::rows::Row;
 use calculus::stack::Stack;
@@ -100,7 +99,8 @@ impl<'a, 'p> Listing<'a, 'p> {
             list,
             ..Pending::default()
         })?;
-        match entry_at(self.code.contents, list as usize) {
+        let code = self.code;
+        match code.list(list) {
             Some(found) if found.len > 0 => self.write_list(list, found),
             _ => Err(Refusal::Astray { list, operation: 0 }),
         }

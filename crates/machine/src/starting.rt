@@ -7,7 +7,6 @@ ghost use Rattle.machine.specs.Machine.{state_of};
 
 use crate::machine::Machine;
 use calculus::code::{Code, CodeArea};
-use calculus::lookup::entry_at;
 use calculus::refusals::Refusal;
 use calculus::stack::Stack;
 use calculus::values::Value;
@@ -20,8 +19,7 @@ use store::store::Store;
 fn givens_of(code: &Code<'_>, program: u32) -> Option<u32>
     ensures { result ≡ givens_of (text_of code.now) program }
 {
-    let entry = entry_at(code.contents, program as usize)?;
-    entry.mark.checked_sub(1)
+    code.list(program)?.givens()
 }
 
 /// Whether a value names no object that is missing among so many.

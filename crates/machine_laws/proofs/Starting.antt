@@ -2,7 +2,7 @@
 use Rattle.std.proofs.Common.{◌≡◌, ℕ, ◌+◌, ◌≤◌, Bool, true, false, cond, ◌&&◌, eqb, leb, List, [], ◌∷◌, length, Some, None, Ok, Err, Option, Result, sym, refl, ap, ◌∙◌, subst, arith, length-append, ltb-true, eqb-true, leb-true}
 use lib.ListN.{length-map}
 use Rattle.calculus.specs.Places.{if_some}
-use Rattle.calculus.specs.Text.{Text}
+use Rattle.calculus.specs.Text.{main_mark, Text}
 use Rattle.calculus.specs.Terms.{val, Closed, Within}
 use Rattle.calculus.specs.Trees.{Code, trans, done}
 use Rattle.calculus.specs.Standing.{Stands, Program}
@@ -15,7 +15,7 @@ use Rattle.machine_model.specs.declared.state.Cell.{Cell}
 use Rattle.machine_model.specs.declared.state.Progress.{Progress}
 use Rattle.machine_model.specs.declared.state.Progress.TheVariants.{Unused, Running, Ended}
 use Rattle.machine_model.specs.State.{State}
-use Rattle.machine_model.specs.Start.{cells_with, env_with, main_mark, givens_of, present, all_present, start_for, start_in, start_result}
+use Rattle.machine_model.specs.Start.{cells_with, env_with, givens_of, present, all_present, start_for, start_in, start_result}
 use Rattle.semantics.specs.Reduction.{WellFormed, ValuesWithin}
 use Rattle.semantics.specs.Machine.{TreeStore}
 use Rattle.semantics.specs.Unloading.{unload_store}

@@ -1,7 +1,7 @@
 -- The start of a program.
 use Rattle.std.specs.Prelude.{slice_get, ℕ, zero, suc, ◌+◌, Bool, true, cond, ◌&&◌, List, [], ◌∷◌, ◌++◌, length, Some, None, Ok, Err, Option, Result, ◌==◌, nat_le, nat_lt}
 use Rattle.calculus.specs.Places.{if_some}
-use Rattle.calculus.specs.Text.{Text, used, rooms, within}
+use Rattle.calculus.specs.Text.{Text, used, rooms, within, main_mark}
 use Rattle.calculus.specs.declared.code.Counts.{Counts}
 use Rattle.calculus.specs.declared.code.Tables.{Tables}
 use Rattle.calculus.specs.declared.refusals.Refusal.{Refusal}
@@ -25,11 +25,6 @@ abbrev mutual
   pub env_with : List Cell → List Value → ℕ
   env_with cs [] = 0
   env_with cs (v ∷ vs) = suc (length (cells_with cs vs))
-
--- the number of givens of a main list: its mark is one more
-abbrev pub main_mark : ℕ → Option ℕ
-main_mark zero = None
-main_mark (suc g) = Some g
 
 abbrev pub givens_of : Text → ℕ → Option ℕ
 givens_of code p = if_some (slice_get code.contents p) (λ e. main_mark e.mark) None

@@ -5,7 +5,6 @@ ghost use Rattle.calculus.specs.Text.{text_of};
 ghost use Rattle.machine_model.specs.State.{fetched, fetched_from, is_found, cell_of, variable, begins, goes_on};
 
 use calculus::code::{Code, ListEntry, Operation};
-use calculus::lookup::entry_at;
 use calculus::stack::Stack;
 use calculus::values::Value;
 use machine_model::answers::Fault;
@@ -17,22 +16,17 @@ pub(crate) fn fetch(code: &Code<'_>, list: u32, next: u32) -> Result<Option<Oper
     ensures is { result ≡ fetched (text_of code.now) list next }
     ensures short { is_found result ≡ true → next + 1 < 2 ^ 32 }
 {
-    let entry = entry_at(code.contents, list as usize).ok_or(Fault::Astray)?;
-    fetch_from(code.operations, entry, next)
+    let entry = code.list(list).ok_or(Fault::Astray)?;
+    fetch_from(code, entry, next)
 }
 
 /// The operation at a place of the list that an entry tells.
-fn fetch_from(
-    operations: &[Operation],
-    entry: ListEntry,
-    next: u32,
-) -> Result<Option<Operation>, Fault>
-    ensures is { result ≡ fetched_from operations.now entry next }
+fn fetch_from(code: &Code<'_>, entry: ListEntry, next: u32) -> Result<Option<Operation>, Fault>
+    ensures is { result ≡ fetched_from (text_of code.now).operations entry next }
     ensures short { is_found result ≡ true → next + 1 < 2 ^ 32 }
 {
     if next < entry.len {
-        let place = entry.first as usize + next as usize;
-        let operation = entry_at(operations, place).ok_or(Fault::Astray)?;
+        let operation = code.operation(entry, next).ok_or(Fault::Astray)?;
         Ok(Some(operation))
     } else if next == entry.len {
         Ok(None)

@@ -6,7 +6,7 @@ use Rattle.calculus.specs.Layout.{contents_of, layout, lengths, compiled}
 use Rattle.calculus.specs.Places.{if_some}
 use Rattle.calculus.specs.Standing.{Program}
 use Rattle.calculus.specs.Terms.{Term, Static, Closed}
-use Rattle.calculus.specs.Text.{Text, joined}
+use Rattle.calculus.specs.Text.{main_mark, Text, joined}
 use Rattle.calculus.specs.Trees.{trans, done}
 use Rattle.calculus.specs.declared.code.Counts.{Counts}
 use Rattle.calculus.specs.declared.code.ListEntry.{ListEntry}
@@ -21,7 +21,7 @@ use Rattle.store.specs.Meaning.{Meaning}
 use Rattle.machine_model.specs.declared.state.Progress.{Progress}
 use Rattle.machine_model.specs.declared.state.Progress.TheVariants.{Unused, Running, Ended}
 use Rattle.machine_model.specs.State.{State}
-use Rattle.machine_model.specs.Start.{main_mark, givens_of}
+use Rattle.machine_model.specs.Start.{givens_of}
 use Rattle.semantics.specs.Machine.{TreeStore}
 use Rattle.semantics.specs.Machine as tree
 use Rattle.semantics.specs.Unloading.{unload_store}
