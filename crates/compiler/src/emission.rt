@@ -66,9 +66,8 @@ impl Emission<'_, '_> {
         requires { at ≤ length self.now.rows.now }
         ensures { result ≡ front (drop at self.now.rows.now) }
     {
-        self.rows
+        self.rows[at..]
             .iter()
-            .skip(at)
             .take_while(|row| row.kind >= RowKind::Select as u8)
             .count()
     }
