@@ -83,6 +83,7 @@ fn show_list(
     operations: &[Operation],
 ) -> io::Result<()> {
     print!(rt; "list {number}, mark {}:", entry.mark)?;
+    // By place, since a list may reach past the table: what is missing is shown too.
     for place in 0..entry.len {
         match operations.get(entry.first as usize + place as usize) {
             Some(operation) => print!(rt; " {},", Shown(*operation))?,
