@@ -32,10 +32,10 @@ impl<'a, S: Store> Session<'a, S> {
     }
 
     /// The used parts of the code area.
-    pub fn code(&self) -> Option<Code<'_>>
-        ensures { MatchOption result (within self.now.area.counts (rooms self.now.area.tables) ≡ false) (λ c. (within self.now.area.counts (rooms self.now.area.tables) ≡ true) × (text_of c ≡ used self.now.area.tables self.now.area.counts)) }
+    pub fn code(&self) -> Code<'_>
+        ensures { text_of result ≡ used self.now.area.tables self.now.area.counts }
     {
-        self.area.used()
+        self.area.used().unwrap()
     }
 
     /// How many objects there are.
