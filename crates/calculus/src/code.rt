@@ -44,7 +44,7 @@ pub struct Counts {
     pub methods: u32,
 }
 
-/// The three tables, as they are lent to be written.
+/// The three tables, as they are lent to be written. (`Code` is what is lent of them to be read, `Counts` how much; no field of one has the type of another's.)
 #[derive(Drop)]
 pub struct Tables<'a> {
     pub contents: &'a mut [ListEntry],

@@ -4,7 +4,7 @@ use calculus::refusals::{Place, Refusal};
 use calculus::rows::{Row, RowKind};
 use std::{fmt, io};
 
-/// A value as the output shows it.
+/// A value as the output shows it, which is not as a script does.
 #[derive(Clone, Copy)]
 pub(crate) struct Shown<T>(pub(crate) T);
 

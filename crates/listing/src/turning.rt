@@ -45,6 +45,7 @@ impl Listing<'_, '_> {
         ensures answer { Some (told result (λ _. rows_in self.new)) ≡ walked (2 * row_room self.old + 1) (text_of self.old.code) (rooms self.old) (state_of self.old) }
         ensures kept { Keeps self.old self.new }
     {
+        // a turn may put lists on the stack that it was taken from
         while let Some(pending) = self.pending.pop() {
             self.turn(pending)?;
         }

@@ -41,6 +41,7 @@ impl<'a> State<'a> {
         ensures state { state_at self.new ≡ settled (text_of code.now) (state_at self.old) }
         ensures short { OnOk result (self.new.registers.at.next + 1 < 2 ^ 32) }
     {
+        // until what is due is not silent
         loop {
             match self.next(code)? {
                 Due::Fill(value) => {
