@@ -9,19 +9,20 @@ ghost use Rattle.store.specs.Meaning.{place_from, methods_of};
 use crate::areas::Areas;
 use crate::closures::{Closure, Method};
 use crate::faults::StoreFault;
-use crate::layout::{Span, limit, method_in, place_of};
+use crate::layout::{Span, method_in, place_of};
+use calculus::area::counted_len;
 use calculus::code::MethodEntry;
 
 impl<'a, E: Copy> Areas<'a, E> {
-    /// Areas of which nothing is in use.
+    /// Areas of which nothing is in use; their lengths set the limits.
     pub fn new(objects: &'a mut [E], methods: &'a mut [Method]) -> Areas<'a, E>
         ensures object_count { result.object_count ≡ 0 }
         ensures method_count { result.method_count ≡ 0 }
         ensures object_limit { result.object_limit ≡ counted (length objects.old) }
         ensures method_limit { result.method_limit ≡ counted (length methods.old) }
     {
-        let object_limit = limit(objects.len());
-        let method_limit = limit(methods.len());
+        let object_limit = counted_len(objects.len());
+        let method_limit = counted_len(methods.len());
         Areas {
             objects,
             methods,

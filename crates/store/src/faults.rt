@@ -6,13 +6,13 @@ ghost use Rattle.store.specs.Faults.{store_number};
 #[derive(Clone, Copy, PartialEq, Eq, Debug)]
 pub enum StoreFault {
     /// The objects have reached their limit.
-    ObjectsFull,
+    ObjectsFull = 25,
     /// The sizes of all objects would pass the method limit.
-    MethodsFull,
+    MethodsFull = 26,
     /// No object has this location.
-    NoLocation,
+    NoLocation = 31,
     /// The object has no method at this place.
-    NoPlace,
+    NoPlace = 32,
 }
 
 impl StoreFault {
@@ -20,12 +20,6 @@ impl StoreFault {
     pub fn number(self) -> u32
         ensures { result ≡ store_number self }
     {
-        // by cases, as every refusal's number
-        match self {
-            StoreFault::ObjectsFull => 25,
-            StoreFault::MethodsFull => 26,
-            StoreFault::NoLocation => 31,
-            StoreFault::NoPlace => 32,
-        }
+        self as u32
     }
 }

@@ -1,11 +1,9 @@
-//! What the kinds of store share: the limit that an area sets, and where an object's methods stand in it.
+//! Where an object's methods stand in an area: what the kinds of store share.
 ghost use Rattle.std.specs.Prelude.{slice_get, ◌≡◌};
-ghost use Rattle.calculus.specs.Held.{counted};
 ghost use Rattle.store.specs.Layout.{part};
 ghost use Rattle.store.specs.Meaning.{place_from};
 
 use crate::closures::Method;
-use calculus::area::counted_len;
 use calculus::lookup::entry_at;
 
 /// A stretch of a method area: its first entry, and how many there are.
@@ -13,13 +11,6 @@ use calculus::lookup::entry_at;
 pub struct Span {
     pub first: u32,
     pub size: u32,
-}
-
-/// The limit that an area of this length sets.
-pub fn limit(len: usize) -> u32
-    ensures { result ≡ counted len }
-{
-    counted_len(len)
 }
 
 /// The method at a place, from 0, in a stretch of the methods.

@@ -1,5 +1,5 @@
 //! The book of a layer's trials.
-ghost use Rattle.std.specs.Prelude.{◌≡◌, ◌≤◌, true, length};
+ghost use Rattle.std.specs.Prelude.{◌≡◌, ◌≤◌, true};
 ghost use Rattle.trial_layer.specs.States.{is_blank};
 
 use crate::notes::NoteTable;
@@ -13,7 +13,6 @@ pub struct Book {
     pub(crate) state: TrialState,
     pub(crate) notes: NoteTable,
     pub(crate) count: usize,
-    ghost long: { length notes.rows ≡ 256 },
     ghost within: { count ≤ 256 },
     ghost blank: { is_blank state count ≡ true },
 }

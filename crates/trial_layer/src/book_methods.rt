@@ -1,7 +1,8 @@
 //! The book's own methods.
-ghost use Rattle.std.specs.Prelude.{slice_get, ◌≡◌, ◌<◌, length, take, Some};
+ghost use Rattle.std.specs.Prelude.{slice_get, ◌≡◌, ◌<◌, length, take, Some, Ok, Err};
+ghost use Rattle.calculus.specs.Places.{if_some};
 ghost use Rattle.store.specs.Meaning.{closed, noted};
-ghost use Rattle.trial_layer.specs.Trials.{written, trial_of, open_result, trial_opened, is_open, back_fault};
+ghost use Rattle.trial_layer.specs.Trials.{written, trial_of, open_result, trial_opened, keep_result, back_fault};
 
 use crate::book::Book;
 use crate::faults::TrialFault;
@@ -66,22 +67,26 @@ impl Book {
         Ok(Token::numbered(self.last))
     }
 
-    /// Whether a trial with this number is open.
-    pub fn has_open(&self, number: u32) -> bool
-        ensures { result ≡ is_open (trial_of self.now) number }
+    /// Refuses a number unless a trial with it is open.
+    pub fn check(&self, number: u32) -> Result<(), TrialFault>
+        ensures { result ≡ keep_result (trial_of self.now) number }
     {
-        self.state != TrialState::Closed && self.last == number
+        if self.state != TrialState::Closed && self.last == number {
+            Ok(())
+        } else {
+            Err(TrialFault::WrongToken)
+        }
     }
 
-    /// Why the trial with this number cannot be put back, if it cannot. An `Option` and no `Result`: the layer's own error hands back
-    /// the token beside the fault, so no `?` could pass it on.
-    pub fn back_fault(&self, number: u32) -> Option<TrialFault>
-        ensures { result ≡ back_fault (trial_of self.now) number }
+    /// Refuses a number unless the trial with it is open and can be put back.
+    pub fn may_go_back(&self, number: u32) -> Result<(), TrialFault>
+        ensures { result ≡ if_some (back_fault (trial_of self.now) number) (λ fault. Err fault) (Ok tt) }
     {
-        if !self.has_open(number) {
-            return Some(TrialFault::WrongToken);
+        self.check(number)?;
+        if self.state == TrialState::Overrun {
+            return Err(TrialFault::Overrun);
         }
-        (self.state == TrialState::Overrun).then_some(TrialFault::Overrun)
+        Ok(())
     }
 
     /// Ends the trial and empties the book.

@@ -6,13 +6,13 @@ ghost use Rattle.trial_layer.specs.Faults.{trial_number};
 #[derive(Clone, Copy, PartialEq, Eq, Debug)]
 pub enum TrialFault {
     /// A trial is open already.
-    Open,
+    Open = 27,
     /// The last trial had the last number.
-    NoNumber,
+    NoNumber = 28,
     /// The token's number is not that of an open trial here.
-    WrongToken,
+    WrongToken = 29,
     /// The book has missed an update, so it cannot be put back.
-    Overrun,
+    Overrun = 30,
 }
 
 impl TrialFault {
@@ -20,12 +20,6 @@ impl TrialFault {
     pub fn number(self) -> u32
         ensures { result ≡ trial_number self }
     {
-        // by cases, as every refusal's number
-        match self {
-            TrialFault::Open => 27,
-            TrialFault::NoNumber => 28,
-            TrialFault::WrongToken => 29,
-            TrialFault::Overrun => 30,
-        }
+        self as u32
     }
 }

@@ -41,9 +41,7 @@ impl<S: Store> TrialLayer<S> {
         ensures answer { result ≡ keep_result (layer_meaning S.Store.meaning self.old).trial token.number }
         ensures state { layer_meaning S.Store.meaning self.new ≡ kept (layer_meaning S.Store.meaning self.old) token.number }
     {
-        if !self.book.has_open(token.spend()) {
-            return Err(TrialFault::WrongToken);
-        }
+        self.book.check(token.spend())?;
         self.book.close();
         Ok(())
     }
@@ -82,7 +80,7 @@ impl<S: Store> TrialLayer<S> {
         ensures state { layer_meaning S.Store.meaning self.new ≡ put_back (layer_meaning S.Store.meaning self.old) token.number }
         ensures back { PutBack (layer_meaning S.Store.meaning self.old) token result (layer_meaning S.Store.meaning self.new) }
     {
-        if let Some(fault) = self.book.back_fault(token.number()) {
+        if let Err(fault) = self.book.may_go_back(token.number()) {
             return Err((token, fault));
         }
         let _ = token.spend();

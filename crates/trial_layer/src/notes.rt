@@ -10,13 +10,12 @@ pub const BOOK_ROOM: usize = 256;
 #[derive(Drop)]
 pub struct NoteTable {
     rows: [OldMethod; BOOK_ROOM],
+    ghost long: { length rows ≡ 256 },
 }
 
 impl NoteTable {
     /// A table whose rows hold nothing yet.
-    pub fn new() -> NoteTable
-        ensures { length result.rows ≡ 256 }
-    {
+    pub fn new() -> NoteTable {
         NoteTable {
             rows: [OldMethod::default(); BOOK_ROOM],
         }
@@ -24,7 +23,7 @@ impl NoteTable {
 
     /// The old method in a row.
     pub fn get(&self, row: usize) -> OldMethod
-        requires { (row < length self.now.rows) × (row < 256) }
+        requires { row < 256 }
         ensures { Some result ≡ slice_get self.now.rows row }
     {
         self.rows[row]
@@ -32,7 +31,7 @@ impl NoteTable {
 
     /// Writes an old method into a row.
     pub fn store(&mut self, row: usize, old: OldMethod)
-        requires { (row < length self.old.rows) × (row < 256) }
+        requires { row < 256 }
         ensures { self.new.rows ≡ slice_set self.old.rows row old }
     {
         self.rows[row] = old;

@@ -56,7 +56,7 @@ impl Store for Nothing {
     }
 }
 
-// The number of the trial that is opened and kept, or that of the fault.
+// Opens a trial and keeps it: its number, or the fault.
 fn next(layer: &mut TrialLayer<Nothing>) -> Result<u32, TrialFault> {
     let token = layer.open()?;
     let number = token.number();

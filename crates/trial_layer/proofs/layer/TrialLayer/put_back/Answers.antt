@@ -5,11 +5,11 @@ use Rattle.trial_layer.specs.Trials.{back_result, put_back}
 use Rattle.trial_layer.proofs.Running.{back}
 use Rattle.trial_layer.proofs.layer.TrialLayer.put_back.Goals as goal
 
-pub returns-in-Some : goal.returns-in-Some
-returns-in-Some g c =
+pub returns-in-Err : goal.returns-in-Err
+returns-in-Err g c =
     let e : Meaning = layer_meaning g.S.Store.meaning c.args.self.now in
     let x = c.args.token in
-    let a : Err (x, c.in-Some.fault) ≡ back_result e.trial x = search rules in
+    let a : Err (x, c.in-Err.fault) ≡ back_result e.trial x = search rules in
     let s : e ≡ put_back e x.number = search rules in
     record { answer = a; state = s; back = λ table m k calls was is. back table m k calls was e is x _ a e s }
 
