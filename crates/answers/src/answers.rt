@@ -7,11 +7,10 @@ use calculus::code::Counts;
 use calculus::refusals::{Place, Refusal};
 use machine_model::answers::RunAnswer;
 use machine_model::state::Report;
-use signs::write::ValueText;
 use std::fmt;
 use trial_layer::faults::TrialFault;
 
-/// What a call answers that is accepted, where it is one line.
+/// What a call answers that is carried out, where it is one line.
 #[derive(Clone, Copy)]
 pub enum Answer {
     Sizes(Counts),
@@ -54,18 +53,18 @@ impl fmt::Display for Refused {
     fn fmt<W: fmt::Write>(&self, f: &mut fmt::Formatter<W>) -> fmt::Result {
         match *self {
             Refused::Call(why) => {
-                write!(f, "refused {} at {}", why.number(), PlaceText(why.place()))
+                write!(f, "refused {} at {}", why.number(), Text(why.place()))
             }
             Refused::Trial(why) => write!(f, "refused {} at 0", why.number()),
         }
     }
 }
 
-/// A place to be written. The calculus, whose type it is, knows nothing of a script's texts; so with each type here that holds but a value to be written.
+/// A value of another crate, to be written as a script's answer. That crate knows nothing of such texts.
 #[derive(Clone, Copy)]
-pub struct PlaceText(pub Place);
+pub struct Text<T>(pub T);
 
-impl fmt::Display for PlaceText {
+impl fmt::Display for Text<Place> {
     ghost output = { λ t. Some (place_text t.0) };
 
     fn fmt<W: fmt::Write>(&self, f: &mut fmt::Formatter<W>) -> fmt::Result {
@@ -77,11 +76,7 @@ impl fmt::Display for PlaceText {
     }
 }
 
-/// A report to be written.
-#[derive(Clone, Copy)]
-pub struct ReportText(pub Report);
-
-impl fmt::Display for ReportText {
+impl fmt::Display for Text<Report> {
     ghost output = { λ t. Some (report_text t.0) };
 
     fn fmt<W: fmt::Write>(&self, f: &mut fmt::Formatter<W>) -> fmt::Result {
@@ -100,11 +95,8 @@ impl fmt::Display for ReportText {
     }
 }
 
-/// What rows take, to be written.
-#[derive(Clone, Copy)]
-pub struct SizesText(pub Counts);
-
-impl fmt::Display for SizesText {
+/// What rows take.
+impl fmt::Display for Text<Counts> {
     ghost output = { λ t. Some (sizes_text t.0) };
 
     fn fmt<W: fmt::Write>(&self, f: &mut fmt::Formatter<W>) -> fmt::Result {
@@ -120,20 +112,18 @@ impl fmt::Display for SizesText {
     }
 }
 
-/// What a run answers, to be written.
-#[derive(Clone, Copy)]
-pub struct RunText(pub RunAnswer);
-
-impl fmt::Display for RunText {
+/// What a run answers.
+impl fmt::Display for Text<RunAnswer> {
     ghost output = { λ t. Some (run_text t.0) };
 
     fn fmt<W: fmt::Write>(&self, f: &mut fmt::Formatter<W>) -> fmt::Result {
         match self.0 {
+            // by `RunAnswer::number` this arm would open an Option of which it is known that there is one
             RunAnswer::NotRunning => write!(f, "refused 18 at 0"),
             RunAnswer::Done { value, report } => {
-                write!(f, "done {} {}", ValueText(value), ReportText(report))
+                write!(f, "done {} {}", signs::write::Text(value), Text(report))
             }
-            RunAnswer::Paused { report } => write!(f, "paused {}", ReportText(report)),
+            RunAnswer::Paused { report } => write!(f, "paused {}", Text(report)),
             RunAnswer::Refused {
                 fault,
                 place,
@@ -142,8 +132,8 @@ impl fmt::Display for RunText {
                 f,
                 "refused {} at {} {}",
                 fault.number(),
-                PlaceText(place),
-                ReportText(report)
+                Text(place),
+                Text(report)
             ),
         }
     }
@@ -154,10 +144,10 @@ impl fmt::Display for Answer {
 
     fn fmt<W: fmt::Write>(&self, f: &mut fmt::Formatter<W>) -> fmt::Result {
         match *self {
-            Answer::Sizes(sizes) => write!(f, "{}", SizesText(sizes)),
+            Answer::Sizes(sizes) => write!(f, "{}", Text(sizes)),
             Answer::Program(number) => write!(f, "program {number}"),
             Answer::Started => write!(f, "started"),
-            Answer::Ran(answer) => write!(f, "{}", RunText(answer)),
+            Answer::Ran(answer) => write!(f, "{}", Text(answer)),
             Answer::Trial(number) => write!(f, "trial {number}"),
             Answer::Kept => write!(f, "kept"),
             Answer::Restored => write!(f, "restored"),

@@ -2,14 +2,12 @@
 ghost use Rattle.std.specs.Prelude.{Some};
 ghost use Rattle.answers.specs.Texts.{operation_text, method_text};
 
+use crate::answers::Text;
 use calculus::code::{MethodEntry, Operation};
 use std::fmt;
 
-/// An operation to be written; the methods of an object follow it one by one.
-#[derive(Clone, Copy)]
-pub struct OperationText(pub Operation);
-
-impl fmt::Display for OperationText {
+/// The methods of an object follow its operation one by one.
+impl fmt::Display for Text<Operation> {
     ghost output = { λ t. Some (operation_text t.0) };
 
     fn fmt<W: fmt::Write>(&self, f: &mut fmt::Formatter<W>) -> fmt::Result {
@@ -25,11 +23,8 @@ impl fmt::Display for OperationText {
     }
 }
 
-/// A method of an object operation to be written, with the blank before it.
-#[derive(Clone, Copy)]
-pub struct MethodText(pub MethodEntry);
-
-impl fmt::Display for MethodText {
+/// A method of an object operation, with the blank before it.
+impl fmt::Display for Text<MethodEntry> {
     ghost output = { λ t. Some (method_text t.0) };
 
     fn fmt<W: fmt::Write>(&self, f: &mut fmt::Formatter<W>) -> fmt::Result {

@@ -60,6 +60,7 @@ fn answer_all<S: Store, T: Trials<S>>(
     trials: &mut T,
 ) -> io::Result<()> {
     let mut call = first;
+    // counted, since a loop has a measure: `for call in ..` over the script would borrow it, and the body prints with it
     for _ in 0..u64::MAX {
         perform(script, session, trials, &call)?;
         let Some(next) = script.next_call()? else {

@@ -20,7 +20,7 @@ fn list<S: Store>(script: &Script, session: &Session<'_, S>, program: u32) -> io
     let mut rows = vec![in heap; Row::default(); MOST_ROWS]?;
     let mut stack = vec![in heap; Pending::default(); PENDING_LISTS]?;
     match session.list(program, &mut rows, &mut stack) {
-        Ok(count) => print_rows(script, &rows, count as usize),
+        Ok(count) => print_rows(script, &rows[..count as usize]),
         Err(refusal) => script.print_refused(refusal),
     }
 }

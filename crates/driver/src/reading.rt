@@ -5,7 +5,7 @@ ghost use Rattle.std.specs.declared.io.ErrorKind.TheVariants.{OutOfMemory};
 
 use answers::answers::{Answer, Refused};
 use calculus::stack::MOST_ENTRIES;
-use script::calls::{Call, Unread};
+use script::calls::Call;
 use script::lines::read_line;
 use script::settings::{Area, Settings, StoreKind};
 use std::alloc::Global;
@@ -18,7 +18,7 @@ pub struct Script {
     rt: HostRuntime,
     lines: Lines<BufReader<Stdin>>,
     settings: Settings,
-    /// The number of the line read last, counted from 1: counted here, since it goes on from call to call.
+    /// The number of the line read last, counted from 1. The next call is looked for from there.
     line: u64,
 }
 
@@ -70,6 +70,7 @@ impl Script {
 
     /// The next call, past settings, comments and empty lines; none at the end of the script.
     pub fn next_call(&mut self) -> io::Result<Option<Call>> {
+        // counted, since a loop has a measure: `for line in ..` would borrow the script that the body prints with
         for _ in 0..u64::MAX {
             let Some(line) = self.lines.next() else {
                 return Ok(None);
@@ -80,13 +81,9 @@ impl Script {
                 Ok(line) => match read_line(self.rt.alloc(), &mut self.settings, line.as_bytes()) {
                     Ok(None) => {}
                     Ok(Some(call)) => return Ok(Some(call)),
-                    Err(Unread::Expected(what)) => {
-                        eprintln!(self.rt; "line {number}: expected {what}")?;
+                    Err(why) => {
+                        eprintln!(self.rt; "line {number}: {why}")?;
                         return Err(io::Error::other("a bad line"));
-                    }
-                    Err(Unread::NoMemory) => {
-                        eprintln!(self.rt; "line {number}: no memory is left for it")?;
-                        return Err(io::Error::other("no memory"));
                     }
                 },
                 Err(error) => {

@@ -1,7 +1,6 @@
 //! Answers of more than one part: rows, lists of operations, objects.
 use crate::reading::Script;
-use answers::answers::Answer;
-use answers::operations::{MethodText, OperationText};
+use answers::answers::{Answer, Text};
 use calculus::code::{Code, ListEntry, Operation};
 use calculus::refusals::Refusal;
 use calculus::rows::Row;
@@ -9,7 +8,6 @@ use calculus::stack::MOST_ENTRIES;
 use listing::extent::lists_end;
 use machine_model::state::Cell;
 use session::session::Session;
-use signs::write::{RowText, ValueText};
 use std::alloc::AllocError;
 use std::fmt::Write;
 use std::iter::{Skip, Take};
@@ -18,10 +16,10 @@ use store::closures::Method;
 use store::store::Store;
 
 /// `rows ROW ROW ..`
-pub fn print_rows(script: &Script, rows: &[Row], count: usize) -> io::Result<()> {
+pub fn print_rows(script: &Script, rows: &[Row]) -> io::Result<()> {
     let mut line = String::from_str(script.heap(), "rows")?;
-    for row in rows.iter().take(count) {
-        write!(line, " {}", RowText(*row))?;
+    for row in rows {
+        write!(line, " {}", signs::write::Text(*row))?;
     }
     script.print(line)
 }
@@ -41,10 +39,10 @@ fn list_line(
     let mut line = format!(in script.heap(); "list {number}:")?;
     for (i, operation) in part(code.operations, entry.first, entry.len).enumerate() {
         line.push_str(if i == 0 { " " } else { ", " })?;
-        write!(line, "{}", OperationText(*operation))?;
+        write!(line, "{}", Text(*operation))?;
         if let Operation::Object { first, count } = *operation {
             for entry in part(code.methods, first, count) {
-                write!(line, "{}", MethodText(*entry))?;
+                write!(line, "{}", Text(*entry))?;
             }
         }
     }
@@ -82,8 +80,8 @@ fn push_values<S: Store>(
     env: u32,
 ) -> Result<(), AllocError> {
     let mut env = env;
-    // an environment is a number, and each of its cells has the next one's
-    // as many cells as there can be: no type says that the parents lead to the end
+    // an environment is a number, by which its first cell gives the next one's.
+    // No type says that this comes to an end, so there are as many turns as there can be cells
     for i in 0..MOST_ENTRIES {
         let Some(cell) = first_cell(session, env) else {
             return Ok(());
@@ -91,7 +89,7 @@ fn push_values<S: Store>(
         if i > 0 {
             line.push_str(" ")?;
         }
-        write!(line, "{}", ValueText(cell.value))?;
+        write!(line, "{}", signs::write::Text(cell.value))?;
         env = cell.parent;
     }
     Ok(())

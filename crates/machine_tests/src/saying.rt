@@ -1,8 +1,7 @@
 //! Answers as text.
-use answers::answers::{PlaceText, ReportText};
+use answers::answers::Text;
 use calculus::refusals::Refusal;
 use machine_model::answers::{Fault, RunAnswer};
-use signs::write::ValueText;
 use std::io;
 use store::store::Store;
 
@@ -21,12 +20,12 @@ pub fn say_run(rt: &HostRuntime, answer: RunAnswer) -> io::Result<()> {
     match answer {
         RunAnswer::NotRunning => println!(rt; "  18"),
         RunAnswer::Done { value, report } => {
-            let value = ValueText(value);
-            let report = ReportText(report);
+            let value = signs::write::Text(value);
+            let report = Text(report);
             println!(rt; "  done {value}, {report}")
         }
         RunAnswer::Paused { report } => {
-            let report = ReportText(report);
+            let report = Text(report);
             println!(rt; "  paused, {report}")
         }
         RunAnswer::Refused {
@@ -35,8 +34,8 @@ pub fn say_run(rt: &HostRuntime, answer: RunAnswer) -> io::Result<()> {
             report,
         } => {
             let number = fault.number();
-            let place = PlaceText(place);
-            let report = ReportText(report);
+            let place = Text(place);
+            let report = Text(report);
             print!(rt; "  {number} at {place}")?;
             say_inside(rt, fault)?;
             println!(rt; ", {report}")
@@ -49,7 +48,7 @@ pub fn say_start(rt: &HostRuntime, answer: Result<(), Refusal>) -> io::Result<()
         Ok(()) => println!(rt; "  started"),
         Err(refusal) => {
             let number = refusal.number();
-            let place = PlaceText(refusal.place());
+            let place = Text(refusal.place());
             println!(rt; "  {number} at {place}")
         }
     }

@@ -1,5 +1,7 @@
--- What is said to be expected.
-use Rattle.std.specs.Prelude.{ℕ, List, codes}
+-- What is said of a line that was not read.
+use Rattle.std.specs.Prelude.{ℕ, List, codes, ◌++◌}
+use Rattle.script.specs.declared.calls.Unread.{Unread}
+use Rattle.script.specs.declared.calls.Unread.TheVariants as unread
 use Rattle.script.specs.declared.calls.Expected.{Expected}
 use Rattle.script.specs.declared.calls.Expected.TheVariants.{Keyword, StoreKind, SettingOnce, SettingFirst, AreaName, AreaOnce, AreaLength, Givens, Row, Program, Allowance, Value, Reductions, Trial, TrialLayer, LineEnd}
 
@@ -20,3 +22,7 @@ expected_text Reductions = codes "a number of reductions, from 0 to 4294967295"
 expected_text Trial = codes "a trial's number, from 0 to 4294967295"
 expected_text TrialLayer = codes "a store that is a trial layer (set it by 'store trial flat', say)"
 expected_text LineEnd = codes "nothing more on this line"
+
+abbrev pub unread_text : Unread → List ℕ
+unread_text (unread.Expected e) = codes "expected " ++ expected_text e
+unread_text unread.NoMemory = codes "no memory is left for it"

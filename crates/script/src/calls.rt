@@ -1,7 +1,7 @@
 //! The calls of a script, and what a line lacks that is none.
 ghost use Rattle.std.specs.Prelude.{◌≡◌, Some};
 ghost use Rattle.script.specs.declared.calls.Unread.TheVariants.{Expected as expected, NoMemory};
-ghost use Rattle.script.specs.Messages.{expected_text};
+ghost use Rattle.script.specs.Messages.{expected_text, unread_text};
 
 use calculus::rows::Row;
 use calculus::values::Value;
@@ -102,6 +102,17 @@ impl fmt::Display for Expected {
 pub enum Unread {
     Expected(Expected),
     NoMemory,
+}
+
+impl fmt::Display for Unread {
+    ghost output = { λ e. Some (unread_text e) };
+
+    fn fmt<W: fmt::Write>(&self, f: &mut fmt::Formatter<W>) -> fmt::Result {
+        match self {
+            Self::Expected(what) => write!(f, "expected {what}"),
+            Self::NoMemory => write!(f, "no memory is left for it"),
+        }
+    }
 }
 
 impl From<Expected> for Unread {

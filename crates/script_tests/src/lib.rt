@@ -8,7 +8,7 @@ mod tests {
     use script::calls::{Call, Expected, TrialCall, Unread};
     use script::lines::read_line;
     use script::settings::{Area, Settings, StoreKind};
-    use signs::write::{RowText, ValueText};
+    use signs::write::Text;
     use std::alloc::Global;
     use std::test::Fail;
 
@@ -163,9 +163,9 @@ mod tests {
             Call::Check { givens, rows } => {
                 assert_eq!(rt; givens, 3);
                 assert!(rt; rows.len() == 3);
-                assert_eq!(rt; RowText(rows[0]).to_string(heap)?.as_str(), "V1");
-                assert_eq!(rt; RowText(rows[1]).to_string(heap)?.as_str(), "S65535");
-                assert_eq!(rt; RowText(rows[2]).to_string(heap)?.as_str(), "9/8/-7");
+                assert_eq!(rt; Text(rows[0]).to_string(heap)?.as_str(), "V1");
+                assert_eq!(rt; Text(rows[1]).to_string(heap)?.as_str(), "S65535");
+                assert_eq!(rt; Text(rows[2]).to_string(heap)?.as_str(), "9/8/-7");
             }
             _ => return Err(Fail::new("another call")),
         }
@@ -178,8 +178,8 @@ mod tests {
                 assert_eq!(rt; program, 1);
                 assert_eq!(rt; allowance, 2);
                 assert!(rt; values.len() == 2);
-                assert_eq!(rt; ValueText(values[0]).to_string(heap)?.as_str(), "0");
-                assert_eq!(rt; ValueText(values[1]).to_string(heap)?.as_str(), "@3");
+                assert_eq!(rt; Text(values[0]).to_string(heap)?.as_str(), "0");
+                assert_eq!(rt; Text(values[1]).to_string(heap)?.as_str(), "@3");
                 Ok(())
             }
             _ => Err(Fail::new("another call")),

@@ -7,11 +7,11 @@ use calculus::rows::{Row, RowKind};
 use calculus::values::Value;
 use std::fmt;
 
-/// A row to be written. How a script writes it is no matter of the calculus, so the type itself has no text.
+/// A row or a value to be written. How a script writes it is no matter of the calculus, so the types themselves have no text.
 #[derive(Clone, Copy)]
-pub struct RowText(pub Row);
+pub struct Text<T>(pub T);
 
-impl fmt::Display for RowText {
+impl fmt::Display for Text<Row> {
     ghost output = { λ t. Some (row_text t.0) };
 
     fn fmt<W: fmt::Write>(&self, f: &mut fmt::Formatter<W>) -> fmt::Result {
@@ -34,11 +34,7 @@ impl fmt::Display for RowText {
     }
 }
 
-/// A value to be written, likewise.
-#[derive(Clone, Copy)]
-pub struct ValueText(pub Value);
-
-impl fmt::Display for ValueText {
+impl fmt::Display for Text<Value> {
     ghost output = { λ t. Some (value_text t.0) };
 
     fn fmt<W: fmt::Write>(&self, f: &mut fmt::Formatter<W>) -> fmt::Result {
