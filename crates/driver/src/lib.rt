@@ -31,6 +31,7 @@ fn drive<T: Trials<S>, S: Store + Drop>(
     store: S,
 ) -> io::Result<()> {
     let heap = script.heap();
+    // a value has no default
     let no_cell = Cell {
         value: Value::Figure(0),
         parent: 0,

@@ -10,7 +10,7 @@ use machine_model::state::Cell;
 use session::session::Session;
 use std::alloc::AllocError;
 use std::fmt::Write;
-use std::iter::{Skip, Take};
+use std::iter::Take;
 use std::{io, slice};
 use store::closures::Method;
 use store::store::Store;
@@ -25,8 +25,9 @@ pub fn print_rows(script: &Script, rows: &[Row]) -> io::Result<()> {
 }
 
 /// So many entries of a table from the first on, as far as they are there.
-fn part<T>(entries: &[T], first: u32, count: u32) -> Take<Skip<slice::Iter<'_, T>>> {
-    entries.iter().skip(first as usize).take(count as usize)
+fn part<T>(entries: &[T], first: u32, count: u32) -> Take<slice::Iter<'_, T>> {
+    let rest = entries.get(first as usize..).unwrap_or(&[]);
+    rest.iter().take(count as usize)
 }
 
 /// `list K: OP, OP, ..`, each method of an object ` LABEL:LIST` behind it.
@@ -55,9 +56,7 @@ pub fn print_code<S: Store>(
     session: &Session<'_, S>,
     program: u32,
 ) -> io::Result<()> {
-    let Some(code) = session.code() else {
-        return script.print_refused(Refusal::CountOutside);
-    };
+    let code = session.code();
     let Some(end) = lists_end(program, &code) else {
         return script.print_refused(Refusal::NoProgram);
     };

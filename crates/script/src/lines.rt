@@ -121,7 +121,7 @@ fn may_set(settings: Settings, is_set: bool) -> Result<(), Expected>
     Ok(())
 }
 
-/// The settings with the store that the words that are left name.
+/// The settings with the store that the words that are left name. (As `lengths_line`, for another setting and by another reader.)
 fn store_line(settings: Settings, words: Words<'_>) -> Result<Settings, Expected>
     ensures { result ≡ store_line settings (left words.entry) }
 {

@@ -1,7 +1,8 @@
 //! An object of the sharing store.
 
 /// Where an object's methods are reserved and where they stand, and with which objects it shares them. An object is filled once they
-/// stand where they are reserved; until then it has those of its root, which is filled.
+/// stand where they are reserved; until then it has those of its root, which is filled. Objects name one
+/// another by number, since their entries lie in a lent area.
 #[derive(Clone, Copy, Default)]
 pub struct SharedEntry {
     /// Where its own space begins in the method area.

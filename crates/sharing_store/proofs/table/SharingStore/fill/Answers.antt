@@ -30,4 +30,3 @@ invariant_of-self c =
 pub returns-then-entry : goal.returns-then-entry
 returns-then-entry c =
     fills_it c.args.self.now c.args.location c.requires c.at-entry.result (c.at-entry.ensures no_entry) c.if-entry.true c.held_span.result c.held_span.ensures c.copy_methods.new.self c.copy_methods.ensures _ c.set.ensures
-
