@@ -18,7 +18,7 @@ pub struct Script {
     rt: HostRuntime,
     lines: Lines<BufReader<Stdin>>,
     settings: Settings,
-    /// The number of the line read last, counted from 1. The next call is looked for from there.
+    /// The number of the line read last, counted from 1. It is kept from call to call, since a bad line is named by its place in the whole script.
     line: u64,
 }
 
