@@ -62,8 +62,7 @@ fn change_and_put_back<S: Store>(
 fn change_and_keep<S: Store>(layer: &mut TrialLayer<S>) -> Result<(), TrialFault> {
     let token = layer.open()?;
     change(layer);
-    layer.keep(token)?;
-    Ok(())
+    layer.keep(token)
 }
 
 fn say(rt: &impl Print, what: &str, ended: Result<(), TrialFault>) -> io::Result<()> {

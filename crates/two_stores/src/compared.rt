@@ -1,9 +1,8 @@
 //! The two kinds of store compared call by call and object by object.
+ghost use Rattle.std.specs.Prelude.{◌≤◌};
+
 use crate::calls::{Shape, mixed, shaped, table};
-use crate::shown::{junk_entry, junk_method};
-use flat_store::table::FlatStore;
-use sharing_store::table::SharingStore;
-use store::layout::Span;
+use crate::junk::Junk;
 use store::store::Store;
 use store_laws::runs::{StoreAnswer, StoreCall, perform_all};
 
@@ -19,24 +18,14 @@ fn same_objects<S: Store, T: Store>(left: &S, right: &T) -> bool {
     count == right.object_count() && (0..count).all(|location| same_object(left, right, location))
 }
 
-// How many objects both kinds have after the calls (1,000 at most), with areas of these lengths (400 and 1,600 at most), if they gave the
-// same answers and have the same objects.
-fn alike(calls: &[StoreCall], object_area: usize, method_area: usize) -> Option<u32> {
-    if object_area > 400 || method_area > 1600 {
-        return None;
-    }
-    let mut spans = [Span { first: 9, size: 9 }; 400];
-    let mut flat_methods = [junk_method(); 1600];
-    let mut entries = [junk_entry(); 400];
-    let mut sharing_methods = [junk_method(); 1600];
-    let mut flat = FlatStore::new(
-        &mut spans[0..object_area],
-        &mut flat_methods[0..method_area],
-    );
-    let mut sharing = SharingStore::new(
-        &mut entries[0..object_area],
-        &mut sharing_methods[0..method_area],
-    );
+// How many objects both kinds have after the calls (1,000 at most), over areas of these lengths, if they gave the same answers and have
+// the same objects.
+fn alike<const OBJECTS: usize, const METHODS: usize>(calls: &[StoreCall]) -> Option<u32>
+    requires objects { OBJECTS ≤ 400 }
+    requires methods { METHODS ≤ 1600 }
+{
+    let mut junk = Junk::<OBJECTS, METHODS>::new();
+    let (mut flat, mut sharing) = junk.stores();
     let mut answers = [Ok(StoreAnswer::Updated); 1000];
     let mut others = [Ok(StoreAnswer::Updated); 1000];
     let table = table();
@@ -52,7 +41,7 @@ fn alike(calls: &[StoreCall], object_area: usize, method_area: usize) -> Option<
 pub fn shape_alike(shape: Shape, clones: u32, at: u32) -> Option<u32> {
     let mut calls = [StoreCall::ObjectCount; 20];
     shaped(shape, clones, at, &mut calls);
-    alike(&calls, 400, 1600)
+    alike::<400, 1600>(&calls)
 }
 
 /// A thousand calls by the seed, in areas of which now the one and now the other fills up.
@@ -60,8 +49,8 @@ pub fn mixed_alike(seed: u64) -> Option<u32> {
     let mut calls = [StoreCall::ObjectCount; 1000];
     mixed(seed, &mut calls);
     if seed % 2 == 0 {
-        alike(&calls, 120, 1600)
+        alike::<120, 1600>(&calls)
     } else {
-        alike(&calls, 400, 300)
+        alike::<400, 300>(&calls)
     }
 }

@@ -1,8 +1,11 @@
 //! Drives a flat store and a sharing store through the same calls, and prints what they answer and what they hold.
 #![tactic(auto)]
 
+ghost use Rattle.std.specs.Prelude.{◌≤◌};
+
 mod calls;
 mod compared;
+mod junk;
 mod shown;
 
 use crate::calls::{Shape, closure, updated};
@@ -32,7 +35,18 @@ fn first_steps(rt: &HostRuntime) -> io::Result<()> {
         StoreCall::Update(4, 0, closure(9)),
     ];
     println!(rt; "a clone, and updates at either end")?;
-    both(rt, 8, 16, &calls)
+    both::<8, 16>(rt, &calls)
+}
+
+fn small_area<const OBJECTS: usize, const METHODS: usize>(
+    rt: &HostRuntime,
+    calls: &[StoreCall],
+) -> io::Result<()>
+    requires objects { OBJECTS ≤ 400 }
+    requires methods { METHODS ≤ 1600 }
+{
+    println!(rt; "object area of {OBJECTS}, method area of {METHODS}")?;
+    both::<OBJECTS, METHODS>(rt, calls)
 }
 
 // What areas of no entries and of one let be made.
@@ -60,13 +74,10 @@ fn small_areas(rt: &HostRuntime) -> io::Result<()> {
         updated(0, 0),
         StoreCall::Size(0),
     ];
-    for objects in 0..2usize {
-        for methods in 0..2usize {
-            println!(rt; "object area of {objects}, method area of {methods}")?;
-            both(rt, objects, methods, &calls)?;
-        }
-    }
-    Ok(())
+    small_area::<0, 0>(rt, &calls)?;
+    small_area::<0, 1>(rt, &calls)?;
+    small_area::<1, 0>(rt, &calls)?;
+    small_area::<1, 1>(rt, &calls)
 }
 
 // Objects of no methods and of 64.
@@ -102,7 +113,7 @@ fn small_and_large(rt: &HostRuntime) -> io::Result<()> {
         },
     ];
     println!(rt; "objects of no methods and of 64")?;
-    both(rt, 8, 200, &calls)
+    both::<8, 200>(rt, &calls)
 }
 
 // Whether the two kinds were alike, and with how many objects.

@@ -1,33 +1,13 @@
 //! What a store answers and holds, in print.
+ghost use Rattle.std.specs.Prelude.{◌≤◌};
+
 use crate::calls::table;
-use flat_store::table::FlatStore;
-use sharing_store::entries::SharedEntry;
-use sharing_store::table::SharingStore;
+use crate::junk::Junk;
 use std::io;
-use store::closures::{Closure, Method};
+use store::closures::Method;
 use store::faults::StoreFault;
-use store::layout::Span;
 use store::store::Store;
 use store_laws::runs::{StoreAnswer, StoreCall, perform_all};
-
-// Areas may hold anything when a store begins.
-pub fn junk_method() -> Method {
-    Method {
-        label: 9,
-        closure: Closure { list: 9, env: 9 },
-    }
-}
-
-pub fn junk_entry() -> SharedEntry {
-    SharedEntry {
-        first: 9,
-        size: 9,
-        held: 9,
-        root: 9,
-        last: 9,
-        previous: 9,
-    }
-}
 
 fn print_method(rt: &HostRuntime, method: Method) -> io::Result<()> {
     let label = method.label;
@@ -84,24 +64,18 @@ fn print_run<S: Store>(rt: &HostRuntime, store: &mut S, calls: &[StoreCall]) -> 
     Ok(())
 }
 
-/// Runs the calls on a new store of each kind, with areas of these lengths (8 and 200 at most), and prints the answers and the objects.
-pub fn both(
+/// Runs the calls on a new store of each kind, over areas of these lengths, and prints the answers and the objects.
+pub fn both<const OBJECTS: usize, const METHODS: usize>(
     rt: &HostRuntime,
-    objects: usize,
-    methods: usize,
     calls: &[StoreCall],
-) -> io::Result<()> {
-    let mut spans = [Span { first: 9, size: 9 }; 8];
-    let mut flat_methods = [junk_method(); 200];
-    let mut entries = [junk_entry(); 8];
-    let mut sharing_methods = [junk_method(); 200];
-    if objects > 8 || methods > 200 {
-        return Ok(());
-    }
-    let mut flat = FlatStore::new(&mut spans[0..objects], &mut flat_methods[0..methods]);
+) -> io::Result<()>
+    requires objects { OBJECTS ≤ 400 }
+    requires methods { METHODS ≤ 1600 }
+{
+    let mut junk = Junk::<OBJECTS, METHODS>::new();
+    let (mut flat, mut sharing) = junk.stores();
     println!(rt; "  flat")?;
     print_run(rt, &mut flat, calls)?;
-    let mut sharing = SharingStore::new(&mut entries[0..objects], &mut sharing_methods[0..methods]);
     println!(rt; "  sharing")?;
     print_run(rt, &mut sharing, calls)
 }
