@@ -99,7 +99,7 @@ def find(top):
                     note("3.for over indices", at, code)
             if re.match(r"\s*for .*\.enumerate\(\)", code) or re.match(r"\s*for \w+ in ", code) and re.search(r"return (Some|true|false)", "\n".join(lines[at : at + 4])):
                 note("3.search by hand", at, code)
-            if re.search(r"impl .*Display for \w+Text", code):
+            if re.search(r"impl .*Display for \w*Text\b", code):
                 note("4.printing of a value by a type around it", at, code)
             if re.search(r"fn (number|named|\w+_named|text)\(", code):
                 note("4.conversion by hand", at, code)

@@ -1,7 +1,6 @@
 //! The calls that both stores are put through.
 use calculus::code::MethodEntry;
-use std::array;
-use std::iter;
+use std::{array, iter};
 use store::closures::Closure;
 use store_laws::runs::StoreCall;
 

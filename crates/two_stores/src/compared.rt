@@ -7,10 +7,14 @@ use store::store::Store;
 use store_laws::runs::{StoreAnswer, StoreCall, perform_all};
 
 fn same_object<S: Store, T: Store>(left: &S, right: &T, location: u32) -> bool {
-    let size = left.size(location);
-    size == right.size(location)
-        && (0..size.unwrap_or(0)).all(|place| left.method_at(location, place)
-            == right.method_at(location, place))
+    let Ok(size) = left.size(location) else {
+        return false;
+    };
+    right.size(location) == Ok(size)
+        && (0..size).all(|place| {
+            let method = left.method_at(location, place);
+            method.is_ok() && method == right.method_at(location, place)
+        })
 }
 
 fn same_objects<S: Store, T: Store>(left: &S, right: &T) -> bool {
