@@ -5,7 +5,7 @@ ghost use Rattle.std.specs.declared.io.ErrorKind.TheVariants.{OutOfMemory};
 
 use answers::answers::{Answer, Refused};
 use calculus::stack::MOST_ENTRIES;
-use script::calls::Call;
+use script::calls::{Call, Unread};
 use script::lines::read_line;
 use script::settings::{Area, Settings, StoreKind};
 use std::alloc::Global;
@@ -18,7 +18,7 @@ pub struct Script {
     rt: HostRuntime,
     lines: Lines<BufReader<Stdin>>,
     settings: Settings,
-    /// The number of the line read last, counted from 1. The next call is looked for from there.
+    /// The number of the line read last, counted from 1. It is kept from call to call, since a bad line is named by its place in the whole script.
     line: u64,
 }
 
@@ -83,7 +83,10 @@ impl Script {
                     Ok(Some(call)) => return Ok(Some(call)),
                     Err(why) => {
                         eprintln!(self.rt; "line {number}: {why}")?;
-                        return Err(io::Error::other("a bad line"));
+                        return Err(io::Error::other(match why {
+                            Unread::Expected(_) => "a bad line",
+                            Unread::NoMemory => "no memory",
+                        }));
                     }
                 },
                 Err(error) => {
