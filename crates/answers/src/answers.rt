@@ -52,9 +52,7 @@ impl fmt::Display for Refused {
 
     fn fmt<W: fmt::Write>(&self, f: &mut fmt::Formatter<W>) -> fmt::Result {
         match *self {
-            Refused::Call(why) => {
-                write!(f, "refused {} at {}", why.number(), Text(why.place()))
-            }
+            Refused::Call(why) => { write!(f, "refused {} at {}", why.number(), Text(why.place())) }
             Refused::Trial(why) => write!(f, "refused {} at 0", why.number()),
         }
     }

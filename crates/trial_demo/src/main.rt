@@ -53,7 +53,7 @@ fn change_and_put_back<S: Store>(
     let shown = show(rt, "during", layer);
     let ended = match layer.put_back(token) {
         Ok(()) => Ok(()),
-        Err((token, _)) => layer.keep(token),
+        Err((back, _)) => layer.keep(back),
     };
     (shown, ended)
 }

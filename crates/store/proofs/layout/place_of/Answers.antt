@@ -9,4 +9,3 @@ returns-in-None c = nowhere c.args.methods.now c.args.span c.args.label c.loop-p
 
 pub loop-place-preserved : goal.loop-place-preserved
 loop-place-preserved c = not_yet c.args.methods.now c.args.span c.args.label c.loop-place.place c.loop-place.invariant c.in-Some.method c.loop-place-test.true c.in-Some.ensures c.if-method-label.false
-
