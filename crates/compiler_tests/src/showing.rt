@@ -2,6 +2,7 @@
 use calculus::code::{Code, Counts, ListEntry, Operation};
 use calculus::refusals::{Place, Refusal};
 use calculus::rows::{Row, RowKind};
+use signs::write::Text;
 use std::{fmt, io};
 
 /// A value as the output shows it, which is not as a script does.
@@ -34,20 +35,8 @@ impl fmt::Display for Shown<Counts> {
 
 impl fmt::Display for Shown<Row> {
     fn fmt<W: fmt::Write>(&self, f: &mut fmt::Formatter<W>) -> fmt::Result {
-        let Row {
-            kind,
-            label,
-            number,
-        } = self.0;
-        match RowKind::try_from(kind) {
-            Ok(RowKind::Variable) => write!(f, "V{number}"),
-            Ok(RowKind::Figure) => write!(f, "F{number}"),
-            Ok(RowKind::Object) => write!(f, "O{number}"),
-            Ok(RowKind::Select) => write!(f, "S{label}"),
-            Ok(RowKind::Update) => write!(f, "U{label}"),
-            Ok(RowKind::Clone) => write!(f, "C"),
-            Ok(RowKind::Let) => write!(f, "L"),
-            Ok(RowKind::Method) => write!(f, "M{label}"),
+        match RowKind::try_from(self.0.kind) {
+            Ok(_) => write!(f, "{}", Text(self.0)),
             Err(_) => write!(f, "?"),
         }
     }
