@@ -5,11 +5,11 @@
 mod making;
 mod showing;
 mod trying;
-mod words;
+mod word;
 
 use crate::making::{clones, object, one_more, rows_in};
 use crate::trying::{Space, large, many};
-use crate::words::{number, operation_of};
+use crate::word::{number, operation_of};
 use calculus::code::{Counts, ListEntry, MethodEntry};
 use compiler_bench::lets;
 use std::io;

@@ -1,5 +1,5 @@
 //! Tables of rows, read from text or made at random.
-use crate::words::letter_and_number;
+use crate::word::letter_and_number;
 use calculus::rows::{Row, RowKind};
 use compiler_bench::lets;
 use std::alloc::{AllocError, Global};
