@@ -3,7 +3,7 @@
 
 usage: tools/places.py [-c] [DIR]    DIR: a checkout (default: this folder); -c: counts alone
 
-Each place is one line `POINT.KIND FILE:LINE TEXT`. The search goes by text: it finds candidates, and a reader
+A line `POINT.KIND: COUNT` for each kind, and below it a line `FILE:LINE TEXT` for each place. The search goes by text: it finds candidates, and a reader
 decides. Tests below #[cfg(test)] count like any other code.
 """
 import glob
