@@ -92,9 +92,6 @@ emit_term-emit_term-next-requires t c =
 pub emit_term-bounds-self-slot-in-Select : goal.emit_term-bounds-self-slot-in-Select
 emit_term-bounds-self-slot-in-Select t c = one_slot c.args.self.now.rows.now _ _ _ (one t (goal.at.emit_term-bounds-self-slot-in-Select t c).In-Select) _ _ c.emit_term-next.ensures.wrote c.requires
 
-pub emit_term-overflow_add-at-in_default : goal.emit_term-overflow_add-at-in_default
-emit_term-overflow_add-at-in_default t c = let lt = ready_lt c.args.self.now.rows.now _ _ _ c.requires in search rules
-
 pub emit_term-overflow_sub-slot-in_default : goal.emit_term-overflow_sub-slot-in_default
 emit_term-overflow_sub-slot-in_default t c = (two_room c.args.self.now.rows.now _ _ _ (two t (goal.at.emit_term-overflow_sub-slot-in_default t c).In_default) c.requires).0
 
