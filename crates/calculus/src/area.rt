@@ -33,6 +33,23 @@ pub fn fits_in(counts: Counts, rooms: Counts) -> bool
         && counts.methods <= rooms.methods
 }
 
+/// The used parts of tables that are lent to be read alone, unless a count is past its table.
+pub fn used_of<'b>(tables: &'b Tables<'_>, counts: Counts) -> Option<Code<'b>>
+    ensures { MatchOption result (within counts (rooms tables.now) ≡ false) (λ c. (within counts (rooms tables.now) ≡ true) × (text_of c ≡ used tables.now counts)) }
+{
+    if !fits_in(counts, rooms_of(tables)) {
+        return None;
+    }
+    let contents: &[ListEntry] = &*tables.contents;
+    let operations: &[Operation] = &*tables.operations;
+    let methods: &[MethodEntry] = &*tables.methods;
+    Some(Code {
+        contents: &contents[..counts.contents as usize],
+        operations: &operations[..counts.operations as usize],
+        methods: &methods[..counts.methods as usize],
+    })
+}
+
 impl<'a> CodeArea<'a> {
     /// An area of which nothing is used yet. Its tables may hold anything.
     pub fn new(tables: Tables<'a>) -> CodeArea<'a>
@@ -49,16 +66,6 @@ impl<'a> CodeArea<'a> {
     pub fn used(&self) -> Option<Code<'_>>
         ensures { MatchOption result (within self.now.counts (rooms self.now.tables) ≡ false) (λ c. (within self.now.counts (rooms self.now.tables) ≡ true) × (text_of c ≡ used self.now.tables self.now.counts)) }
     {
-        if !fits_in(self.counts, rooms_of(&self.tables)) {
-            return None;
-        }
-        let contents: &[ListEntry] = &*self.tables.contents;
-        let operations: &[Operation] = &*self.tables.operations;
-        let methods: &[MethodEntry] = &*self.tables.methods;
-        Some(Code {
-            contents: &contents[..self.counts.contents as usize],
-            operations: &operations[..self.counts.operations as usize],
-            methods: &methods[..self.counts.methods as usize],
-        })
+        used_of(&self.tables, self.counts)
     }
 }

@@ -23,7 +23,8 @@ mod writing;
 
 use crate::pending::Pending;
 use crate::turning::list_program;
-use calculus::code::CodeArea;
+use calculus::area::used_of;
+use calculus::code::{CodeArea, Counts, Tables};
 use calculus::refusals::Refusal;
 use calculus::rows::Row;
 
@@ -56,7 +57,39 @@ pub fn list_back(
         length table ≤ counted (length rows.old) → 200 ≤ counted (length stack.old) →
         Gave (map plain table) result rows.old rows.new }
 {
-    let code = area.used().ok_or(Refusal::CountOutside)?;
+    list_back_of(program, &area.tables, area.counts, rows, stack)
+}
+
+/// The same for tables that are lent to be read alone, and for any counts of them.
+pub fn list_back_of(
+    program: u32,
+    tables: &Tables<'_>,
+    counts: Counts,
+    rows: &mut [Row],
+    stack: &mut [Pending],
+) -> Result<u32, Refusal>
+    // the rows, or the first refusal
+    ensures answer { Some (told result (λ n. take n rows.new)) ≡ answer tables.now counts (lent_rooms rows.old stack.old) program }
+    // past the rows written they are as they were
+    ensures kept { IfOk result (λ n. (n ≤ length rows.new) × (drop n rows.new ≡ drop n rows.old)) }
+    // whatever the tables hold, what comes back is the rows of a term that the program stands for
+    ensures only { IfOk result (λ n. (t : Term) × (g : ℕ) × Program (used tables.now counts) program g (trans t done) × (take n rows.new ≡ rows_of t)) }
+    // what stands for the tree of a term comes back as the term's rows, where there is room
+    ensures stands { (t : Term) (g : ℕ) →
+        within counts (rooms tables.now) ≡ true →
+        Program (used tables.now counts) program g (trans t done) →
+        length (rows_of t) ≤ counted (length rows.old) →
+        nesting t < counted (length stack.old) →
+        Gave (rows_of t) result rows.old rows.new }
+    // what was compiled comes back as the rows compiled, whatever was compiled before and after
+    ensures compiled { (T U : Text) (table : List Row) (g : ℕ) (t : Term) →
+        within counts (rooms tables.now) ≡ true →
+        used tables.now counts ≡ joined (compiled T g t) U → program ≡ length T.contents →
+        Is table t → fits t 1 g ≡ true →
+        length table ≤ counted (length rows.old) → 200 ≤ counted (length stack.old) →
+        Gave (map plain table) result rows.old rows.new }
+{
+    let code = used_of(tables, counts).ok_or(Refusal::CountOutside)?;
     list_program(program, &code, rows, stack)
 }
 

@@ -12,7 +12,7 @@ pub struct Pending {
 
 /// What a pending list has next.
 #[derive(Clone, Copy)]
-pub(crate) enum Step {
+pub enum Step {
     /// No operation is left.
     Ended,
     /// An operation without a body, or whose bodies are written.

@@ -8,7 +8,8 @@ ghost use Rattle.machine_steps.specs.Parts.{turn_of};
 ghost use Rattle.machine.specs.Machine.{state_of, ran_of};
 
 use crate::machine::Machine;
-use calculus::code::{Code, CodeArea};
+use calculus::area::used_of;
+use calculus::code::{Code, CodeArea, Counts, Tables};
 use calculus::refusals::Place;
 use machine_model::answers::{Fault, RunAnswer, Stop};
 use machine_model::state::{Frame, Progress, Registers};
@@ -134,7 +135,22 @@ impl<'a> Machine<'a> {
         ensures state { state_of self.new ≡ (run_outcome n area.now.tables area.now.counts (state_of self.old) (S.meaning store.old)).state }
         ensures store { S.meaning store.new ≡ (run_outcome n area.now.tables area.now.counts (state_of self.old) (S.meaning store.old)).store }
     {
-        match area.used() {
+        self.run_of(&area.tables, area.counts, store, n)
+    }
+
+    /// The same for tables that are lent to be read alone, and for any counts of them.
+    pub fn run_of<S: Store>(
+        &mut self,
+        tables: &Tables<'_>,
+        counts: Counts,
+        store: &mut S,
+        n: u32,
+    ) -> RunAnswer
+        ensures answer { result ≡ (run_outcome n tables.now counts (state_of self.old) (S.meaning store.old)).answer }
+        ensures state { state_of self.new ≡ (run_outcome n tables.now counts (state_of self.old) (S.meaning store.old)).state }
+        ensures store { S.meaning store.new ≡ (run_outcome n tables.now counts (state_of self.old) (S.meaning store.old)).store }
+    {
+        match used_of(tables, counts) {
             Some(code) => self.run_over(&code, store, n),
             None => self.answer(Stop::Refused(Fault::CountOutside)),
         }

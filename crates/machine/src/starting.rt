@@ -6,7 +6,8 @@ ghost use Rattle.machine_model.specs.Start.{givens_of, present, all_present, sta
 ghost use Rattle.machine.specs.Machine.{state_of};
 
 use crate::machine::Machine;
-use calculus::code::{Code, CodeArea};
+use calculus::area::used_of;
+use calculus::code::{Code, CodeArea, Counts, Tables};
 use calculus::refusals::Refusal;
 use calculus::stack::Stack;
 use calculus::values::Value;
@@ -147,7 +148,23 @@ impl<'a> Machine<'a> {
         ensures answer { result ≡ start_answer area.now.tables area.now.counts (state_of self.old) (S.meaning store.now) program givens.now }
         ensures state { state_of self.new ≡ start_state area.now.tables area.now.counts (state_of self.old) (S.meaning store.now) program givens.now allowance }
     {
-        let code = area.used().ok_or(Refusal::CountOutside)?;
+        self.start_of(&area.tables, area.counts, store, program, givens, allowance)
+    }
+
+    /// The same for tables that are lent to be read alone, and for any counts of them.
+    pub fn start_of<S: Store>(
+        &mut self,
+        tables: &Tables<'_>,
+        counts: Counts,
+        store: &S,
+        program: u32,
+        givens: &[Value],
+        allowance: u32,
+    ) -> Result<(), Refusal>
+        ensures answer { result ≡ start_answer tables.now counts (state_of self.old) (S.meaning store.now) program givens.now }
+        ensures state { state_of self.new ≡ start_state tables.now counts (state_of self.old) (S.meaning store.now) program givens.now allowance }
+    {
+        let code = used_of(tables, counts).ok_or(Refusal::CountOutside)?;
         self.start_over(&code, store, program, givens, allowance)
     }
 }

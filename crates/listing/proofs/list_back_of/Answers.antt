@@ -7,13 +7,14 @@ use Rattle.listing.specs.Listing.{listed}
 use Rattle.listing.specs.Areas.{told, lent_rooms}
 use Rattle.listing.proofs.Rowed.{is_err}
 use Rattle.listing.proofs.Answering.{none_kept, gives_only, gives_term, gives_compiled}
-use Rattle.listing.proofs.list_back.Goals as goal
+use Rattle.listing.proofs.list_back_of.Goals as goal
 
 pub returns : goal.returns
 returns c =
-    let u = rw c.in_ok-code.ensures.ok_part at c.used.ensures in
+    let u = rw c.in_ok-code.ensures.ok_part at c.used_of.ensures in
     let w = c.list_program.ensures in
-    let a = c.args.area.now in
+    let tables = c.args.tables.now in
+    let counts = c.args.counts in
     let before = c.args.rows.now in
     let stack = c.args.stack.now in
     let r = c.list_program.result in
@@ -21,7 +22,7 @@ returns c =
     record {
       answer = is;
       kept = w.kept;
-      only = gives_only a.tables a.counts c.args.program before _ stack r is;
-      stands = gives_term a.tables a.counts c.args.program r before _ stack is w.kept;
-      compiled = gives_compiled a.tables a.counts c.args.program r before _ stack is w.kept;
+      only = gives_only tables counts c.args.program before _ stack r is;
+      stands = gives_term tables counts c.args.program r before _ stack is w.kept;
+      compiled = gives_compiled tables counts c.args.program r before _ stack is w.kept;
     }
