@@ -39,6 +39,8 @@ impl<'a> State<'a> {
         requires { Sound (state_at self.old) }
         ensures answer { result ≡ rest (due (text_of code.now) (settled (text_of code.now) (state_at self.old))) }
         ensures state { state_at self.new ≡ settled (text_of code.now) (state_at self.old) }
+        // the whole area, past its count too
+        ensures cells { self.new.cells ≡ self.old.cells }
         ensures short { OnOk result (self.new.registers.at.next + 1 < 2 ^ 32) }
     {
         // until what is due is not silent

@@ -22,7 +22,7 @@ loop-value-preserved-in-Fill c =
     let s = state_at c.loop-value.self in
     let code = text_of c.args.code.now in
     let d = sym c.in_ok-value.ensures.is ∙ ap Ok c.in-Fill.is in
-    (sym (settled_fill code s c.in-Fill.value d) ∙ c.loop-value.invariant.0, record { transitions_fit = omega (arith, due_fills_vacant code s c.in-Fill.value d, c.loop-value.invariant.1.transitions_fit); counts_fit = c.loop-value.invariant.1.counts_fit })
+    (sym (settled_fill code s c.in-Fill.value d) ∙ c.loop-value.invariant.0, record { transitions_fit = omega (arith, due_fills_vacant code s c.in-Fill.value d, c.loop-value.invariant.1.transitions_fit); counts_fit = c.loop-value.invariant.1.counts_fit }, c.loop-value.invariant.2)
 
 pub loop-value-preserved : goal.loop-value-preserved
 loop-value-preserved c =
@@ -32,14 +32,14 @@ loop-value-preserved c =
     let p = rw e at c.pop.ensures.held in
     let l = ap length p in
     let d = ap Ok (sym c.in-Return.is) ∙ c.in_ok-value.ensures.is in
-    (settled_back code s c.in_ok-self-in-Return.field-0 (held c.pop.new.self) (room c.pop.new.self) d p c.pop.ensures.room ∙ c.loop-value.invariant.0, record { transitions_fit = omega (arith, l, c.loop-value.invariant.1.transitions_fit); counts_fit = c.loop-value.invariant.1.counts_fit })
+    (settled_back code s c.in_ok-self-in-Return.field-0 (held c.pop.new.self) (room c.pop.new.self) d p c.pop.ensures.room ∙ c.loop-value.invariant.0, record { transitions_fit = omega (arith, l, c.loop-value.invariant.1.transitions_fit); counts_fit = c.loop-value.invariant.1.counts_fit }, c.loop-value.invariant.2)
 
 pub returns-in-Done : goal.returns-in-Done
 returns-in-Done c =
     let p = stopped (text_of c.args.code.now) (state_at c.loop-value.self) (state_at c.args.self.now) (Ok (Done c.in-Done.value)) (ap Ok (sym c.in-Done.is) ∙ c.in_ok-value.ensures.is) refl c.loop-value.invariant.0 in
-    record { answer = p.0; state = p.1; short = tt }
+    record { answer = p.0; state = p.1; cells = c.loop-value.invariant.2; short = tt }
 
 pub returns-in-Reduce : goal.returns-in-Reduce
 returns-in-Reduce c =
     let p = stopped (text_of c.args.code.now) (state_at c.loop-value.self) (state_at c.args.self.now) (Ok (Reduce c.in-Reduce.redex)) (ap Ok (sym c.in-Reduce.is) ∙ c.in_ok-value.ensures.is) refl c.loop-value.invariant.0 in
-    record { answer = p.0; state = p.1; short = c.in_ok-value.ensures.short (ap (λ d. reads (Ok d)) c.in-Reduce.is) }
+    record { answer = p.0; state = p.1; cells = c.loop-value.invariant.2; short = c.in_ok-value.ensures.short (ap (λ d. reads (Ok d)) c.in-Reduce.is) }

@@ -5,7 +5,7 @@ use Rattle.machine_steps.specs.Parts.{state_at}
 use Rattle.machine_steps.proofs.state.State.settle.Given as goal
 
 abbrev pub invariant-loop-value : goal.invariant-loop-value
-invariant-loop-value l = (settled (text_of l.code) (state_at l.self) ≡ settled (text_of l.code) (state_at l.initial.self)) × Sound (state_at l.self)
+invariant-loop-value l = (settled (text_of l.code) (state_at l.self) ≡ settled (text_of l.code) (state_at l.initial.self)) × Sound (state_at l.self) × (l.self.cells ≡ l.initial.self.cells)
 
 abbrev pub decreases-loop-value : goal.decreases-loop-value
 decreases-loop-value l = slack (state_at l.self)
