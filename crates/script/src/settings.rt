@@ -1,6 +1,6 @@
 //! What may be set before the first call.
 ghost use Rattle.std.specs.Prelude.{◌≡◌, ◌<◌, refl};
-ghost use Rattle.script.specs.Settings.{has_trials, store_words, store_word_in, areas, area_in, place, none_set, set_of, with_length, at_start, store_of, length_of};
+ghost use Rattle.script.specs.Settings.{has_trials, store_words, store_word_in, areas, area_in, place, none_set, set_of, with_length, usual_defaults, default_length, at_start, store_of, length_of, HoldsAny};
 
 use crate::named::{Named, OfWord, by_name};
 
@@ -111,21 +111,21 @@ pub struct Lengths {
 
 impl Lengths {
     /// No area's length is set.
-    pub(crate) fn none() -> Lengths
+    pub fn none() -> Lengths
         ensures { result ≡ none_set }
     {
         Lengths { set: [None; 7] }
     }
 
     /// The length that is set for an area, if it is.
-    pub(crate) fn of(self, area: Area) -> Option<u32>
+    pub fn of(self, area: Area) -> Option<u32>
         ensures { result ≡ set_of self area }
     {
         self.set[area.place()]
     }
 
     /// The same with this length for an area.
-    pub(crate) fn with(self, area: Area, length: u32) -> Lengths
+    pub fn with(self, area: Area, length: u32) -> Lengths
         ensures { result ≡ with_length self area length }
     {
         let mut set = self.set;
@@ -137,35 +137,88 @@ impl Lengths {
 /// Each area's length where nothing else is set.
 pub const LENGTH: u32 = 4096;
 
-/// What a script has set, and whether it can still set it.
+/// What holds where a script sets nothing else: a caller's to choose.
+#[derive(Clone, Copy)]
+pub struct Defaults {
+    pub store: StoreKind,
+    pub contents: u32,
+    pub operations: u32,
+    pub methods: u32,
+    pub cells: u32,
+    pub frames: u32,
+    pub objects: u32,
+    pub slots: u32,
+}
+
+impl Default for Defaults {
+    ghost is_default = { λ d. d ≡ usual_defaults };
+
+    fn default() -> Defaults {
+        Defaults {
+            store: StoreKind::TrialFlat,
+            contents: LENGTH,
+            operations: LENGTH,
+            methods: LENGTH,
+            cells: LENGTH,
+            frames: LENGTH,
+            objects: LENGTH,
+            slots: LENGTH,
+        }
+    }
+}
+
+impl Defaults {
+    /// The length of an area.
+    fn length(self, area: Area) -> u32
+        ensures { result ≡ default_length self area }
+    {
+        match area {
+            Area::Contents => self.contents,
+            Area::Operations => self.operations,
+            Area::Methods => self.methods,
+            Area::Cells => self.cells,
+            Area::Frames => self.frames,
+            Area::Objects => self.objects,
+            Area::Slots => self.slots,
+        }
+    }
+}
+
+/// What a script has set, whether it can still set it, and what holds where it sets nothing.
 #[derive(Clone, Copy, Default)]
 pub struct Settings {
     pub store: Option<StoreKind>,
     pub lengths: Option<Lengths>,
     pub calls_begun: bool,
+    pub defaults: Defaults,
 }
 
 impl Settings {
-    /// What holds before the first line.
+    /// What holds before the first line, by the usual defaults.
     pub fn new() -> Settings
         ensures { result ≡ at_start }
     {
         Settings::default()
     }
 
-    /// The kind of store: a trial layer over the flat store where nothing else is set.
+    /// The kind of store: the default where none is set.
     pub fn store(self) -> StoreKind
         ensures { result ≡ store_of self }
     {
-        self.store.unwrap_or(StoreKind::TrialFlat)
+        self.store.unwrap_or(self.defaults.store)
     }
 
-    /// The length of an area.
+    /// The length of an area: the default where none is set.
     pub fn length(self, area: Area) -> u32
         ensures { result ≡ length_of self area }
     {
         self.lengths
             .and_then(|lengths| lengths.of(area))
-            .unwrap_or(LENGTH)
+            .unwrap_or(self.defaults.length(area))
     }
 }
+
+/// The law of settings: any store and any lengths, each as set or not, before the first call or after it, are those of some settings.
+pub fn settings_hold_any()
+    ensures { HoldsAny }
+{}

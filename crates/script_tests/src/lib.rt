@@ -7,7 +7,7 @@ mod tests {
     use calculus::values::Value;
     use script::calls::{Call, Expected, TrialCall, Unread};
     use script::lines::read_line;
-    use script::settings::{Area, Settings, StoreKind};
+    use script::settings::{Area, Defaults, Lengths, Settings, StoreKind};
     use signs::write::Text;
     use std::alloc::Global;
     use std::test::Fail;
@@ -142,6 +142,74 @@ mod tests {
         assert_eq!(rt; set.length(Area::Methods), 4096);
         assert!(rt; !set.calls_begun);
         assert!(rt; set.store().has_trials());
+        Ok(())
+    }
+
+    // What a caller chose holds wherever a script sets nothing.
+    #[test]
+    fn own_defaults(rt: HostRuntime) -> Result<(), Fail> {
+        let heap = rt.alloc();
+        let defaults = Defaults {
+            store: StoreKind::Sharing,
+            cells: 10,
+            ..Defaults::default()
+        };
+        let plain = Settings {
+            defaults,
+            ..Settings::new()
+        };
+        assert!(rt; matches!(plain.store(), StoreKind::Sharing));
+        assert_eq!(rt; plain.length(Area::Cells), 10);
+        assert_eq!(rt; lacks(heap, plain, b"open")?, Expected::TrialLayer);
+        let named = after(heap, plain, b"lengths frames 5 objects 0")?;
+        assert_eq!(rt; named.length(Area::Frames), 5);
+        assert_eq!(rt; named.length(Area::Objects), 0);
+        assert_eq!(rt; named.length(Area::Cells), 10);
+        assert_eq!(rt; named.length(Area::Slots), 4096);
+        assert!(rt; matches!(named.store(), StoreKind::Sharing));
+        let flat = after(heap, named, b"store flat")?;
+        assert!(rt; matches!(flat.store(), StoreKind::Flat));
+        assert_eq!(rt; flat.length(Area::Cells), 10);
+        assert_eq!(rt; flat.length(Area::Frames), 5);
+        assert_eq!(rt; lacks(heap, flat, b"store flat")?, Expected::SettingOnce);
+        let layered = Settings {
+            defaults: Defaults {
+                store: StoreKind::TrialSharing,
+                ..defaults
+            },
+            ..plain
+        };
+        let opened = after(heap, layered, b"open")?;
+        assert!(rt; opened.calls_begun);
+        assert!(rt; matches!(opened.store(), StoreKind::TrialSharing));
+        assert_eq!(rt; opened.length(Area::Cells), 10);
+        let bare = after(heap, layered, b"store flat")?;
+        assert_eq!(rt; lacks(heap, bare, b"open")?, Expected::TrialLayer);
+        Ok(())
+    }
+
+    // Lengths and a store that a caller counts as set are as those that a line set.
+    #[test]
+    fn own_settings(rt: HostRuntime) -> Result<(), Fail> {
+        let heap = rt.alloc();
+        let lengths = Lengths::none().with(Area::Cells, 3).with(Area::Slots, 0);
+        assert!(rt; matches!(lengths.of(Area::Cells), Some(3)));
+        assert!(rt; matches!(lengths.of(Area::Slots), Some(0)));
+        assert!(rt; lengths.of(Area::Frames).is_none());
+        let own = Settings {
+            store: Some(StoreKind::Flat),
+            lengths: Some(lengths),
+            ..Settings::new()
+        };
+        assert_eq!(rt; own.length(Area::Cells), 3);
+        assert_eq!(rt; own.length(Area::Slots), 0);
+        assert_eq!(rt; own.length(Area::Frames), 4096);
+        assert_eq!(rt;
+            lacks(heap, own, b"lengths frames 5")?,
+            Expected::SettingOnce
+        );
+        assert_eq!(rt; lacks(heap, own, b"store sharing")?, Expected::SettingOnce);
+        assert_eq!(rt; lacks(heap, own, b"open")?, Expected::TrialLayer);
         Ok(())
     }
 
