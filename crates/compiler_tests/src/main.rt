@@ -9,67 +9,59 @@ mod word;
 
 use crate::making::{clones, object, one_more, rows_in};
 use crate::trying::{Space, large, many};
-use crate::word::{number, operation_of};
+use crate::word::{Word, operation_of, read_words, word_at};
 use calculus::code::{Counts, ListEntry, MethodEntry};
 use compiler_bench::lets;
 use std::io;
 
-/// Does what a line asks for.
-fn obey(rt: &HostRuntime, space: &mut Space, words: &[&str]) -> io::Result<()> {
+/// Does what a line asks for, by the first letter of its first word; a number that is not there is 0.
+fn obey(rt: &HostRuntime, space: &mut Space, words: &[Word]) -> io::Result<()> {
     let heap = rt.alloc();
-    match *words {
-        ["tables", contents, operations, methods] => space.resize(
-            heap,
-            number(contents),
-            number(operations),
-            number(methods),
+    let number = |place| word_at(words, place).number;
+    match word_at(words, 0).letter {
+        Some(b't') => space.resize(heap, number(1), number(2), number(3)),
+        Some(b'c') => space.compile(
+            rt,
+            &rows_in(heap, words.get(2..).unwrap_or(&[]))?,
+            number(1),
         ),
-        ["compile", givens, ref rows @ ..] => {
-            space.compile(rt, &rows_in(heap, rows)?, number(givens))
-        }
-        ["back", program, rows, lists] => {
-            space.back(rt, number(program), number(rows), number(lists))
-        }
-        ["show"] => space.show(rt),
-        ["deep", depth] => large(rt, &clones(heap, number(depth))?),
-        ["wide", methods] => large(rt, &object(heap, number(methods))?),
-        ["high", height] => large(rt, &lets(heap, number(height))?),
-        ["extra", height] => large(rt, &one_more(heap, number(height))?),
-        ["random", tables] => many(rt, number(tables)),
-        ["list", place, first, len, mark] => {
+        Some(b'b') => space.back(rt, number(1), number(2), number(3)),
+        Some(b's') => space.show(rt),
+        Some(b'd') => large(rt, &clones(heap, number(1))?),
+        Some(b'w') => large(rt, &object(heap, number(1))?),
+        Some(b'h') => large(rt, &lets(heap, number(1))?),
+        Some(b'e') => large(rt, &one_more(heap, number(1))?),
+        Some(b'r') => many(rt, number(1)),
+        Some(b'l') => {
             space.store_list(
-                number(place),
+                number(1),
                 ListEntry {
-                    first: number(first),
-                    len: number(len),
-                    mark: number(mark),
+                    first: number(2),
+                    len: number(3),
+                    mark: number(4),
                 },
             );
             Ok(())
         }
-        ["operation", place, operation] => {
-            space.store_operation(number(place), operation_of(operation, 0));
+        Some(b'o') => {
+            space.store_operation(number(1), operation_of(word_at(words, 2), number(3)));
             Ok(())
         }
-        ["operation", place, operation, next] => {
-            space.store_operation(number(place), operation_of(operation, number(next)));
-            Ok(())
-        }
-        ["method", place, label, list] => {
+        Some(b'm') => {
             space.store_method(
-                number(place),
+                number(1),
                 MethodEntry {
-                    label: (number(label) % 65536) as u16,
-                    list: number(list),
+                    label: (number(2) % 65536) as u16,
+                    list: number(3),
                 },
             );
             Ok(())
         }
-        ["used", contents, operations, methods] => {
+        Some(b'u') => {
             space.counts = Counts {
-                contents: number(contents),
-                operations: number(operations),
-                methods: number(methods),
+                contents: number(1),
+                operations: number(2),
+                methods: number(3),
             };
             Ok(())
         }
@@ -83,7 +75,7 @@ fn main(rt: HostRuntime) -> io::Result<()> {
     for line in rt.lines(heap) {
         let text = line?;
         println!(rt; "{text}")?;
-        let words: Vec<&str> = text.split_whitespace().collect(heap)?;
+        let words = read_words(heap, text.as_bytes())?;
         obey(&rt, &mut space, &words)?;
     }
     Ok(())

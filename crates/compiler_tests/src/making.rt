@@ -1,5 +1,5 @@
 //! Tables of rows, read from text or made at random.
-use crate::word::letter_and_number;
+use crate::word::Word;
 use calculus::rows::{Row, RowKind};
 use compiler_bench::lets;
 use std::alloc::{AllocError, Global};
@@ -42,16 +42,16 @@ pub(crate) fn plain(given: Row) -> Row {
 }
 
 /// The kind that a letter stands for.
-fn kind_of(letter: char) -> Option<RowKind> {
+fn kind_of(letter: u8) -> Option<RowKind> {
     match letter {
-        'V' => Some(RowKind::Variable),
-        'F' => Some(RowKind::Figure),
-        'O' => Some(RowKind::Object),
-        'S' => Some(RowKind::Select),
-        'U' => Some(RowKind::Update),
-        'C' => Some(RowKind::Clone),
-        'L' => Some(RowKind::Let),
-        'M' => Some(RowKind::Method),
+        b'V' => Some(RowKind::Variable),
+        b'F' => Some(RowKind::Figure),
+        b'O' => Some(RowKind::Object),
+        b'S' => Some(RowKind::Select),
+        b'U' => Some(RowKind::Update),
+        b'C' => Some(RowKind::Clone),
+        b'L' => Some(RowKind::Let),
+        b'M' => Some(RowKind::Method),
         _ => None,
     }
 }
@@ -64,17 +64,16 @@ const STRANGE: Row = Row {
 };
 
 /// The row that a word names, as `S7`: a letter for the kind, and the number or label that it uses.
-fn row_in(word: &str) -> Row {
-    let (letter, number) = letter_and_number(word);
-    match letter.and_then(kind_of) {
-        Some(kind) => row(kind, (number % 65536) as u16),
+fn row_in(word: Word) -> Row {
+    match word.letter.and_then(kind_of) {
+        Some(kind) => row(kind, (word.number % 65536) as u16),
         None => STRANGE,
     }
 }
 
 /// The rows that words name.
-pub(crate) fn rows_in(heap: Global, words: &[&str]) -> Result<Vec<Row>, AllocError> {
-    words.iter().map(|word| row_in(word)).collect(heap)
+pub(crate) fn rows_in(heap: Global, words: &[Word]) -> Result<Vec<Row>, AllocError> {
+    words.iter().map(|word| row_in(*word)).collect(heap)
 }
 
 /// `depth` clones around a figure.
