@@ -2,7 +2,7 @@
 ghost use Rattle.std.specs.Prelude.{◌≤◌};
 
 use crate::calls::{Shape, mixed, shaped, table};
-use crate::junk::Junk;
+use crate::junk::over_junk;
 use store::store::Store;
 use store_laws::runs::{StoreAnswer, StoreCall, perform_all};
 
@@ -22,23 +22,29 @@ fn same_objects<S: Store, T: Store>(left: &S, right: &T) -> bool {
     count == right.object_count() && (0..count).all(|location| same_object(left, right, location))
 }
 
-// How many objects both kinds have after the calls (1,000 at most), over areas of these lengths, if they gave the same answers and have
-// the same objects.
+// How many objects both stores have after the calls (1,000 at most), if they gave the same answers and have the same objects.
+fn alike_after<S: Store, T: Store>(
+    left: &mut S,
+    right: &mut T,
+    calls: &[StoreCall],
+) -> Option<u32> {
+    let mut answers = [Ok(StoreAnswer::Updated); 1000];
+    let mut others = [Ok(StoreAnswer::Updated); 1000];
+    let table = table();
+    let made = perform_all(left, &table, calls, &mut answers);
+    if perform_all(right, &table, calls, &mut others) != made {
+        return None;
+    }
+    let same = answers[..made] == others[..made] && same_objects(left, right);
+    same.then_some(left.object_count())
+}
+
+// The same of new stores of both kinds, over areas of these lengths.
 fn alike<const OBJECTS: usize, const METHODS: usize>(calls: &[StoreCall]) -> Option<u32>
     requires objects { OBJECTS ≤ 400 }
     requires methods { METHODS ≤ 1600 }
 {
-    let mut junk = Junk::<OBJECTS, METHODS>::new();
-    let (mut flat, mut sharing) = junk.stores();
-    let mut answers = [Ok(StoreAnswer::Updated); 1000];
-    let mut others = [Ok(StoreAnswer::Updated); 1000];
-    let table = table();
-    let made = perform_all(&mut flat, &table, calls, &mut answers);
-    if perform_all(&mut sharing, &table, calls, &mut others) != made {
-        return None;
-    }
-    let same = answers[..made] == others[..made] && same_objects(&flat, &sharing);
-    same.then_some(flat.object_count())
+    over_junk::<OBJECTS, METHODS, _, _>(|flat, sharing| alike_after(flat, sharing, calls))
 }
 
 /// An object and its clones, with updates.

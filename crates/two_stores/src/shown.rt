@@ -2,7 +2,7 @@
 ghost use Rattle.std.specs.Prelude.{◌≤◌};
 
 use crate::calls::table;
-use crate::junk::Junk;
+use crate::junk::over_junk;
 use std::io;
 use store::closures::Method;
 use store::faults::StoreFault;
@@ -72,10 +72,10 @@ pub fn both<const OBJECTS: usize, const METHODS: usize>(
     requires objects { OBJECTS ≤ 400 }
     requires methods { METHODS ≤ 1600 }
 {
-    let mut junk = Junk::<OBJECTS, METHODS>::new();
-    let (mut flat, mut sharing) = junk.stores();
-    println!(rt; "  flat")?;
-    print_run(rt, &mut flat, calls)?;
-    println!(rt; "  sharing")?;
-    print_run(rt, &mut sharing, calls)
+    over_junk::<OBJECTS, METHODS, _, _>(|flat, sharing| {
+        println!(rt; "  flat")?;
+        print_run(rt, flat, calls)?;
+        println!(rt; "  sharing")?;
+        print_run(rt, sharing, calls)
+    })
 }
